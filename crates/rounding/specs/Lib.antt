@@ -1,0 +1,4 @@
+pub mod Value
+pub mod Extremes
+pub mod Root
+pub mod Scale

@@ -1,0 +1,4 @@
+pub mod Records
+pub mod Limits
+pub mod Lift
+pub mod Boxes

@@ -1,0 +1,14 @@
+-- Document 01, "Records": a point, a box and a rectangle are records of floats, here by their fields.
+use lib.Ieee.{Float}
+use Rattle.shapes.specs.declared.geometry.primitives.point.Point.{Point}
+use Rattle.shapes.specs.declared.geometry.primitives.bounds.Bounds.{Bounds}
+use Rattle.shapes.specs.declared.geometry.shapes.rectangle.Rectangle.{Rectangle}
+
+abbrev pub pointAt : Float → Float → Point
+pointAt x y = record { x = x; y = y }
+
+abbrev pub boxOf : Float → Float → Float → Float → Bounds
+boxOf x X y Y = record { «x_min» = x; «x_max» = X; «y_min» = y; «y_max» = Y }
+
+abbrev pub rectangleOf : Point → Float → Float → Rectangle
+rectangleOf center width height = record { center = center; width = width; height = height }

@@ -1,0 +1,80 @@
+// A circle: its centre, its radius, and the lift of its radius.
+ghost use mathlib.Core.Path.{_≡_};
+ghost use Rattle.shapes.specs.Boxes.{circleBox};
+ghost use Rattle.shapes.specs.Limits.{radiusInRange};
+ghost use Rattle.shapes.specs.Lift.{lift, circleAt, movedTo};
+use crate::extremes::maximum;
+use crate::geometry::primitives::bounds::Bounds;
+use crate::geometry::primitives::point::Point;
+
+pub struct Circle {
+    pub center: Point,
+    pub radius: f64,
+}
+
+impl Circle {
+    // 2^-20, the smallest accepted radius.
+    pub const MIN_RADIUS: f64 = 0.00000095367431640625;
+
+    // 2^20, the largest.
+    pub const MAX_RADIUS: f64 = 1048576.0;
+
+    // 2^-1022, the smallest normal number.
+    pub const MIN_POSITIVE: f64 = 2.2250738585072014e-308;
+
+    // Whether a radius is accepted: the ends are, a NaN and the infinities are not.
+    pub fn radius_in_range(radius: f64) -> bool
+        ensures { λ r. ⌜ r ≡ radiusInRange radius ⌝ }
+    {
+        Self::MIN_RADIUS <= radius && radius <= Self::MAX_RADIUS
+    }
+
+    // A circle's radius is above 0, whatever was worked out for it; only a NaN stays.
+    fn lift(radius: f64) -> f64
+        ensures { λ r. ⌜ r ≡ lift radius ⌝ }
+    {
+        maximum(radius, Self::MIN_POSITIVE)
+    }
+
+    // The circle of three numbers. A radius that is too small, 0 or negative is lifted, so that the circle is one.
+    pub fn from_params(x: f64, y: f64, radius: f64) -> Self
+        ensures { λ r. ⌜ r ≡ circleAt x y radius ⌝ }
+    {
+        Circle {
+            center: Point::new(x, y),
+            radius: Self::lift(radius),
+        }
+    }
+
+    pub fn center(self) -> Point
+        ensures { λ r. ⌜ r ≡ self .center ⌝ }
+    {
+        self.center
+    }
+
+    pub fn radius(self) -> f64
+        ensures { λ r. ⌜ r ≡ self .radius ⌝ }
+    {
+        self.radius
+    }
+
+    // The circle at another centre. Every move goes through here, so what else the record holds comes along.
+    pub fn moved_to(mut self, x: f64, y: f64) -> Self
+        ensures { λ r. ⌜ r ≡ movedTo self x y ⌝ }
+    {
+        self.center = Point::new(x, y);
+        self.radius = Self::lift(self.radius);
+        self
+    }
+
+    pub fn bounds(self) -> Bounds
+        ensures { λ r. ⌜ r ≡ circleBox self ⌝ }
+    {
+        Bounds {
+            x_min: self.center.x - self.radius,
+            x_max: self.center.x + self.radius,
+            y_min: self.center.y - self.radius,
+            y_max: self.center.y + self.radius,
+        }
+    }
+}

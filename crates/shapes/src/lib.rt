@@ -1,0 +1,3 @@
+// The records of a layout, and the functions on them that accept every f64 and refuse none.
+pub mod extremes;
+pub mod geometry;
