@@ -1,0 +1,6 @@
+pub mod Callers
+pub mod WholeLaws
+pub mod ScaleLaws
+pub mod PatternLaws
+pub mod NearestLaws
+pub mod AnswerLaws

@@ -1,0 +1,51 @@
+// The square root of an f64, correctly rounded, from integers alone: the f64 nearest the exact root, proved for every f64.
+ghost use mathlib.Core.Path.{_≡_};
+ghost use Prim.Native.Nat.{_<_};
+ghost use lib.Ieee.{binary64, ofBits};
+ghost use Rattle.root.specs.Answer.{answer, nearest};
+ghost use Rattle.root.specs.Parts.{infinity};
+
+pub mod answers;
+mod pattern;
+mod whole;
+
+use answers::Root;
+
+// An exponent field of 2047 and no digits.
+const INFINITY: u64 = 9218868437227405312;
+// The sign alone.
+const MINUS_ZERO: u64 = 9223372036854775808;
+
+// The root of NaN or of a number below 0: refusal 12. -0 gives -0, and +infinity itself.
+pub fn root(x: f64) -> Root
+    ensures { λ r. ⌜ r ≡ answer x ⌝ }
+{
+    if x != x {
+        return Root::Refused(12);
+    }
+    let b = f64::to_bits(x);
+    // The patterns above that of -0 are those of the numbers below 0, in falling order.
+    if MINUS_ZERO < b {
+        return Root::Refused(12);
+    }
+    if b == 0 {
+        return Root::Of(x);
+    }
+    // No NaN is left, so only +infinity and -0 are.
+    if INFINITY <= b {
+        return Root::Of(x);
+    }
+    Root::Of(positive(b))
+}
+
+// The root of the number above 0 that has the pattern b.
+fn positive(b: u64) -> f64
+    requires { ⌜ (0 < b) × (b < infinity) ⌝ }
+    ensures { λ r. ⌜ r ≡ nearest (ofBits binary64 b) ⌝ }
+{
+    let p = pattern::split(b);
+    let w = whole::root_54(p.digits);
+    // The root has 54 digits. Its last is dropped, rounding up where it is 1: then the root is more than half-way, since a number with an
+    // odd root has an odd square, and digits * 2^54 is even. A carry out of the 53 digits goes into the exponent, as it should.
+    f64::from_bits((p.half + 1) * pattern::LEADING + (w.root + 1) / 2)
+}
