@@ -87,7 +87,7 @@ units-root f n t =
       below = λ (w : Float) (p : Fin f w) (l : mag f w < mag f z). cancel-le f n (mag f z + mag f w) (r .below w p l);
       above = λ (w : Float) (p : Fin f w) (l : mag f z < mag f w). cancel-ge f n (mag f z + mag f w) (r .above w p l);
       even = λ (w : Float) (p : Fin f w) (apart : mag f z ≡ mag f w → ⊥) (e : (mag f z + mag f w) * (mag f z + mag f w) ≡ 4 * n).
-      r .even w p apart (half-units-is f n (mag f z + mag f w) ∙ ap (λ (x : ℕ). x * unit-square f n (mag f z + mag f w)) e ∙ sym (root-is-square f n (mag f z + mag f w)));
+          r .even w p apart (half-units-is f n (mag f z + mag f w) ∙ ap (λ (x : ℕ). x * unit-square f n (mag f z + mag f w)) e ∙ sym (root-is-square f n (mag f z + mag f w)));
     }
 
 -- ---- z is within 2 ^ j units of the root of n units, which is half of a last place at that exponent

@@ -1,0 +1,372 @@
+-- More samples, proved by computation: document 01's "By program" and "Mistakes to catch", each refusal of the card reader, and ends of ranges.
+use Prim.Native.Nat.{ℕ, _/_, _%_, _^_}
+use mathlib.Core.Path.{_≡_, refl}
+use mathlib.Core.Bool.{true, false}
+use mathlib.Core.List.{List, [], _∷_, _++_}
+use lib.IntN.{negsuc}
+use lib.ListN.{replicate, take}
+use lib.Ieee.{Float, nan, inf, fin, binary64, neg, ofBits, toBits}
+use Rattle.shapes.specs.declared.geometry.shapes.rectangle.Rectangle.{Rectangle}
+use Rattle.scope.specs.Numbers.{nought, one, half, whole, e-10}
+use Rattle.scope.specs.Runs.{tab, filled}
+use Rattle.scope.specs.Limits.{circleCap, coordinateOk, radiusOk, factorOk}
+use Rattle.scope.specs.Refusals.{refused, given, layoutRefusal}
+use Rattle.shapes.specs.Records.{pointAt, rectangleOf}
+use Rattle.scope.specs.Distance.{rootAnswer, distanceAnswer, circleDistanceAnswer, containsPointAnswer}
+use Rattle.scope.specs.Links.{regions}
+use Rattle.scope.specs.Groups.{Grouping, areaGrouping, plainGrouping, clusters}
+use Rattle.scope.specs.Tolerance.{tolerance}
+use Rattle.scope.specs.Packing.{skylinePack, columnsAnswer, rows, noRectangle}
+use Rattle.scope.specs.Container.{contained}
+use Rattle.scope.specs.CardFile.{factorField, circleField, regionField, Card, readField, fieldBody, nextRefusal}
+use Rattle.scope.specs.Text.{bytes}
+use Rattle.scope.specs.Print.{cardText, float}
+use Rattle.scope.specs.Computing.{computing}
+use Rattle.scope.specs.Samples.{circleAt, wholeCircle, grouped, fileJ}
+
+-- ---- ranges and root
+
+pub record RangeChecks : Type 0 where
+  -- "Coordinate 1048576 passes, the next f64 gives 3."
+  pub coordinate-end : coordinateOk (ofBits binary64 0x4130_0000_0000_0000) ≡ true
+  pub coordinate-past : coordinateOk (ofBits binary64 0x4130_0000_0000_0001) ≡ false
+  pub coordinate-nan : coordinateOk nan ≡ false
+  pub coordinate-inf : coordinateOk (inf true) ≡ false
+  -- 2^-20 passes, the f64 below does not, nor does -0
+  pub radius-end : radiusOk (ofBits binary64 0x3eb0_0000_0000_0000) ≡ true
+  pub radius-below : radiusOk (ofBits binary64 0x3eaf_ffff_ffff_ffff) ≡ false
+  pub radius-zero : radiusOk (neg nought) ≡ false
+  -- "-0 counts as 0"
+  pub factor-zero : factorOk (neg nought) ≡ true
+  pub factor-past : factorOk (ofBits binary64 0x3ff0_0000_0000_0001) ≡ false
+  -- 12
+  pub root-nan : rootAnswer nan ≡ refused 12
+  pub root-below : rootAnswer (neg one) ≡ refused 12
+  pub root-minus-inf : rootAnswer (inf true) ≡ refused 12
+  pub root-minus-zero : rootAnswer (neg nought) ≡ given (neg nought)
+  pub root-inf : rootAnswer (inf false) ≡ given (inf false)
+  -- distances
+  pub points : distanceAnswer (pointAt (whole 1) (whole 2)) (pointAt (whole 4) (whole 6)) ≡ given (whole 5)
+  pub points-nan : distanceAnswer (pointAt nan nought) (pointAt nought nought) ≡ refused 3
+  pub circles : circleDistanceAnswer (wholeCircle 0 0 1) (wholeCircle 3 4 2) ≡ given (whole 2)
+  pub circles-touch : circleDistanceAnswer (wholeCircle 0 0 2) (wholeCircle 3 4 3) ≡ given nought
+  pub circles-both : circleDistanceAnswer (circleAt nan nought nought) (wholeCircle 3 4 3) ≡ refused 3
+  pub circles-radius : circleDistanceAnswer (wholeCircle 0 0 0) (wholeCircle 3 4 3) ≡ refused 4
+  pub on-the-edge : containsPointAnswer (wholeCircle 0 0 5) (pointAt (whole 3) (whole 4)) ≡ given true
+
+pub ranges : RangeChecks
+unfolding computing
+ranges =
+    record {
+      coordinate-end = refl;
+      coordinate-past = refl;
+      coordinate-nan = refl;
+      coordinate-inf = refl;
+      radius-end = refl;
+      radius-below = refl;
+      radius-zero = refl;
+      factor-zero = refl;
+      factor-past = refl;
+      root-nan = refl;
+      root-below = refl;
+      root-minus-inf = refl;
+      root-minus-zero = refl;
+      root-inf = refl;
+      points = refl;
+      points-nan = refl;
+      circles = refl;
+      circles-touch = refl;
+      circles-both = refl;
+      circles-radius = refl;
+      on-the-edge = refl;
+    }
+
+-- ---- clusters
+
+abbrev pub refusedGrouping : ℕ → Grouping
+refusedGrouping k = record { refusal = k; count = 0; numbers = filled circleCap 0 [] }
+
+pub record GroupChecks : Type 0 where
+  -- a chain of three
+  pub chain : areaGrouping 3 (3 ∷ 6 ∷ []) (one ∷ one ∷ []) e-10 ≡ grouped 1 (0 ∷ 0 ∷ 0 ∷ [])
+  -- numbers go by smallest member
+  pub by-smallest : areaGrouping 4 (10 ∷ []) (one ∷ []) e-10 ≡ grouped 3 (0 ∷ 1 ∷ 2 ∷ 1 ∷ [])
+  -- bits at or above n are allowed
+  pub high-bits : areaGrouping 2 (7 ∷ []) (one ∷ []) e-10 ≡ grouped 1 (0 ∷ 0 ∷ [])
+  -- a NaN area does not link; at a NaN tolerance every finite area does, one below 0 too
+  pub nan-area : areaGrouping 2 (3 ∷ []) (nan ∷ []) e-10 ≡ grouped 2 (0 ∷ 1 ∷ [])
+  pub nan-tolerance : areaGrouping 2 (3 ∷ []) (neg one ∷ []) nan ≡ grouped 1 (0 ∷ 0 ∷ [])
+  pub minus-infinity : areaGrouping 2 (3 ∷ []) (neg one ∷ []) (inf true) ≡ grouped 1 (0 ∷ 0 ∷ [])
+  -- alone, the clustering takes a list in any order
+  pub unsorted : clusters 3 (regions (6 ∷ 3 ∷ []) (one ∷ one ∷ [])) e-10 ≡ record { count = 1; numbers = 0 ∷ 0 ∷ 0 ∷ [] }
+  -- "Masks 3, 3 give 5."
+  pub equal-masks : areaGrouping 2 (3 ∷ 3 ∷ []) (one ∷ one ∷ []) e-10 ≡ refusedGrouping 5
+  -- 13 goes before 2, and 1 before both
+  pub unequal-first : areaGrouping 2 (replicate 2049 3) (one ∷ []) e-10 ≡ refusedGrouping 13
+  pub too-many-regions : areaGrouping 2 (replicate 2049 3) (replicate 2049 one) e-10 ≡ refusedGrouping 2
+  pub too-many-circles : areaGrouping 65 (replicate 2049 3) (one ∷ []) e-10 ≡ refusedGrouping 1
+  -- a circle that touches its parent's edge from inside is not apart; one that touches from outside is
+  pub touches-inside : plainGrouping (wholeCircle 0 0 3 ∷ wholeCircle 2 0 1 ∷ []) ≡ grouped 1 (0 ∷ 0 ∷ [])
+  pub touches-outside : plainGrouping (wholeCircle 0 0 1 ∷ wholeCircle 2 0 1 ∷ []) ≡ grouped 2 (0 ∷ 1 ∷ [])
+  pub crosses : plainGrouping (wholeCircle 0 0 2 ∷ wholeCircle 9 0 1 ∷ wholeCircle 3 0 2 ∷ []) ≡ grouped 2 (0 ∷ 1 ∷ 0 ∷ [])
+  -- M is at least 1, and passes over NaN
+  pub tolerance-none : tolerance [] ≡ e-10
+  pub tolerance-nan : tolerance (regions (1 ∷ 2 ∷ 3 ∷ []) (neg (whole 2) ∷ nan ∷ one ∷ [])) ≡ tolerance (regions (1 ∷ []) (whole 2 ∷ []))
+  pub tolerance-inf : tolerance (regions (1 ∷ []) (inf true ∷ [])) ≡ inf false
+
+pub groups : GroupChecks
+unfolding computing
+groups =
+    record {
+      chain = refl;
+      by-smallest = refl;
+      high-bits = refl;
+      nan-area = refl;
+      nan-tolerance = refl;
+      minus-infinity = refl;
+      unsorted = refl;
+      equal-masks = refl;
+      unequal-first = refl;
+      too-many-regions = refl;
+      too-many-circles = refl;
+      touches-inside = refl;
+      touches-outside = refl;
+      crosses = refl;
+      tolerance-none = refl;
+      tolerance-nan = refl;
+      tolerance-inf = refl;
+    }
+
+-- ---- whole cards, from the file to the text
+
+-- the eight bytes of a number, and the fields of a card; a float is given by its bits
+unfoldable pub eight : ℕ → List ℕ
+eight n = tab 8 (λ i. n / 256 ^ i % 256)
+
+unfoldable pub factorBytes : ℕ → List ℕ
+factorBytes f = 1 ∷ 8 ∷ 0 ∷ eight f
+
+unfoldable pub circleBytes : ℕ → ℕ → ℕ → List ℕ
+circleBytes x y r = 2 ∷ 24 ∷ 0 ∷ eight x ++ eight y ++ eight r
+
+unfoldable pub regionBytes : ℕ → ℕ → List ℕ
+regionBytes m a = 3 ∷ 16 ∷ 0 ∷ eight m ++ eight a
+
+-- the bits of a whole number
+unfoldable pub wholeBits : ℕ → ℕ
+wholeBits n = toBits binary64 (whole n)
+
+-- (0,0,4), (0,0,1): a parent and a child in its middle
+unfoldable pub nested : List ℕ
+nested = factorBytes 0 ++ circleBytes 0 0 (wholeBits 4) ++ circleBytes 0 0 (wholeBits 1)
+
+pub record CardChecks : Type 0 where
+  -- "areas 10 on mask 1 and 3 on mask 3: the child ends within 2^-40 of (1.5,0)": it ends at 3ff7ffffffffffdc, 36 units of 2^-52 below 1.5
+  pub child : cardText (nested ++ regionBytes 1 (wholeBits 10) ++ regionBytes 3 (wholeBits 3))
+      ≡ bytes "circles 2 clusters 1 moved 0000000000000002 padding 0000000000000000\n"
+      ++ bytes "0 0 0000000000000000 0000000000000000 4010000000000000\n"
+      ++ bytes "1 0 3ff7ffffffffffdc 0000000000000000 3ff0000000000000\n"
+  -- a NaN area: the child's total is NaN, so it is not moved, and nothing links it
+  pub nan-area : cardText (nested ++ regionBytes 1 (wholeBits 10) ++ regionBytes 3 0x7ff8_0000_0000_0000)
+      ≡ bytes "circles 2 clusters 2 moved 0000000000000000 padding 0000000000000000\n"
+      ++ bytes "0 0 bff0000000000000 0000000000000000 4010000000000000\n"
+      ++ bytes "1 1 4010000000000000 0000000000000000 3ff0000000000000\n"
+  -- a bit above n is a second partner, so the child is not moved
+  pub two-partners : cardText (nested ++ regionBytes 1 (wholeBits 10) ++ regionBytes 7 (wholeBits 3))
+      ≡ bytes "circles 2 clusters 1 moved 0000000000000000 padding 0000000000000000\n"
+      ++ bytes "0 0 0000000000000000 0000000000000000 4010000000000000\n"
+      ++ bytes "1 0 0000000000000000 0000000000000000 3ff0000000000000\n"
+  -- an area equal to the tolerance 1e-10 does not link
+  pub at-tolerance : cardText (nested ++ regionBytes 1 (wholeBits 1) ++ regionBytes 3 0x3ddb_7cdf_d9d7_bdbb)
+      ≡ bytes "circles 2 clusters 2 moved 0000000000000000 padding 0000000000000000\n"
+      ++ bytes "0 0 bff0000000000000 0000000000000000 4010000000000000\n"
+      ++ bytes "1 1 4010000000000000 0000000000000000 3ff0000000000000\n"
+  -- mistake: "summing areas in another order than rising masks". Summed the other way the parent's total is larger, and the child would move.
+  pub sum-order : cardText (nested ++ regionBytes 1 (wholeBits 9007208261) ++ regionBytes 3 (wholeBits (2 ^ 53)) ++ regionBytes 5 (wholeBits 1) ++ regionBytes 9 (wholeBits 1))
+      ≡ bytes "circles 2 clusters 1 moved 0000000000000000 padding 0000000000000000\n"
+      ++ bytes "0 0 0000000000000000 0000000000000000 4010000000000000\n"
+      ++ bytes "1 0 0000000000000000 0000000000000000 3ff0000000000000\n"
+  -- mistake: "mirroring by boxes instead of centres". (0,0,1), (4,0,1), (-3,0,5): 0 is left of the centres' middle, 1/2, and right of the boxes', -3/2.
+  pub mirror : cardText (factorBytes 0 ++ circleBytes 0 0 (wholeBits 1) ++ circleBytes (wholeBits 4) 0 (wholeBits 1) ++ circleBytes 0xc008_0000_0000_0000 0 (wholeBits 5) ++ regionBytes 7 (wholeBits 1))
+      ≡ bytes "circles 3 clusters 1 moved 0000000000000000 padding 0000000000000000\n"
+      ++ bytes "0 0 3ff8000000000000 0000000000000000 3ff0000000000000\n"
+      ++ bytes "1 0 4016000000000000 0000000000000000 3ff0000000000000\n"
+      ++ bytes "2 0 bff8000000000000 0000000000000000 4014000000000000\n"
+  -- mistake: "taking the first circle's angle with the wrong sign". (0,0,1), (3,4,1) end level, up to 2^-51.
+  pub angle : cardText (factorBytes 0 ++ circleBytes 0 0 (wholeBits 1) ++ circleBytes (wholeBits 3) (wholeBits 4) (wholeBits 1) ++ regionBytes 3 (wholeBits 1))
+      ≡ bytes "circles 2 clusters 1 moved 0000000000000000 padding 0000000000000000\n"
+      ++ bytes "0 0 c004000000000000 bcb0000000000000 3ff0000000000000\n"
+      ++ bytes "1 0 4004000000000000 3cb0000000000000 3ff0000000000000\n"
+  -- factor 1/2, (0,0,1), (10,0,2), (0,9,1), three clusters: the largest box goes first, and the padding is half the root of 24
+  pub padded : cardText (factorBytes 0x3fe0_0000_0000_0000 ++ circleBytes 0 0 (wholeBits 1) ++ circleBytes (wholeBits 10) 0 (wholeBits 2) ++ circleBytes 0 (wholeBits 9) (wholeBits 1))
+      ≡ bytes "circles 3 clusters 3 moved 0000000000000000 padding 4003988e1409212e\n"
+      ++ bytes "0 0 3feffffffffffff8 bcc0000000000000 3ff0000000000000\n"
+      ++ bytes "1 1 c011cc470a049097 bcc0000000000000 4000000000000000\n"
+      ++ bytes "2 2 4015cc470a049097 0000000000000000 3ff0000000000000\n"
+  -- "Either zero prints as sixteen 0s."
+  pub minus-zero : float (neg nought) ≡ bytes "0000000000000000"
+  -- "No circles: accepted, all 0."
+  pub none : cardText (factorBytes 0) ≡ bytes "circles 0 clusters 0 moved 0000000000000000 padding 0000000000000000\n"
+
+pub cards : CardChecks
+unfolding computing nested factorBytes circleBytes regionBytes eight wholeBits
+cards =
+    record {
+      child = refl;
+      nan-area = refl;
+      two-partners = refl;
+      at-tolerance = refl;
+      sum-order = refl;
+      mirror = refl;
+      angle = refl;
+      padded = refl;
+      minus-zero = refl;
+      none = refl;
+    }
+
+-- ---- refusals of the card reader, each by the text that `card` prints
+
+unfoldable pub unit : List ℕ
+unit = circleBytes 0 0 (wholeBits 1)
+
+-- a card so far: n circles and m regions
+unfoldable pub soFar : ℕ → ℕ → Card
+soFar n m =
+    record { factor = nought; circles = replicate n (circleAt nought nought one); masks = replicate m 1; patterns = replicate m 0; areas = replicate m nought }
+
+pub record ReaderChecks : Type 0 where
+  pub empty : cardText [] ≡ bytes "refused 9\n"
+  pub head-cut : cardText (1 ∷ []) ≡ bytes "refused 11\n"
+  -- the head goes before the tag
+  pub later-head-cut : cardText (factorBytes 0 ++ 7 ∷ 0 ∷ []) ≡ bytes "refused 11\n"
+  pub circle-first : cardText unit ≡ bytes "refused 9\n"
+  pub second-factor : cardText (factorBytes 0 ++ factorBytes 0) ≡ bytes "refused 9\n"
+  pub unknown-tag : cardText (factorBytes 0 ++ 4 ∷ 16 ∷ 0 ∷ []) ≡ bytes "refused 9\n"
+  pub circle-after-region : cardText (factorBytes 0 ++ regionBytes 1 0 ++ unit) ≡ bytes "refused 9\n"
+  pub wrong-length : cardText (factorBytes 0 ++ 2 ∷ 16 ∷ 0 ∷ []) ≡ bytes "refused 10\n"
+  pub high-length : cardText (1 ∷ 8 ∷ 1 ∷ eight 0) ≡ bytes "refused 10\n"
+  pub body-cut : cardText (take 20 fileJ) ≡ bytes "refused 11\n"
+  -- the 65th circle and the 2,049th region, each before its length
+  pub circle-65 : nextRefusal (soFar 64 0) (2 ∷ 0 ∷ 0 ∷ []) ≡ 1
+  pub circle-64 : nextRefusal (soFar 63 0) unit ≡ 0
+  pub region-2049 : nextRefusal (soFar 1 2048) (3 ∷ 0 ∷ 0 ∷ []) ≡ 2
+  pub region-2048 : nextRefusal (soFar 1 2047) (regionBytes 5 0) ≡ 0
+  -- a misplaced circle is looked at before the count
+  pub place-first : nextRefusal (soFar 64 1) (2 ∷ 24 ∷ 0 ∷ []) ≡ 9
+  -- "Then values, by the table."
+  pub bad-coordinate : cardText (factorBytes 0 ++ circleBytes 0x4130_0000_0000_0001 0 0) ≡ bytes "refused 3\n"
+  pub bad-radius : cardText (factorBytes 0 ++ circleBytes 0x4130_0000_0000_0000 0 0) ≡ bytes "refused 4\n"
+  pub equal-masks : cardText (factorBytes (wholeBits 2) ++ unit ++ unit ++ regionBytes 3 0 ++ regionBytes 3 0) ≡ bytes "refused 5\n"
+  pub bad-factor : cardText (factorBytes (wholeBits 2) ++ unit) ≡ bytes "refused 6\n"
+  -- "64 circles pass, 65 give 1."
+  pub circles-64 : layoutRefusal (replicate 64 (wholeCircle 0 0 1)) nought [] [] ≡ 0
+  pub circles-65 : layoutRefusal (replicate 65 (wholeCircle 0 0 1)) nought [] [] ≡ 1
+  -- "Longer input prints `refused 2`"
+  pub too-long : cardText (replicate 65537 0) ≡ bytes "refused 2\n"
+  pub long-enough : cardText (replicate 65536 0) ≡ bytes "refused 9\n"
+  -- the two field calls
+  pub factor-read : readField fileJ 0 ≡ given (factorField nought)
+  pub circle-read : readField fileJ 38 ≡ given (circleField (wholeCircle 10 0 1))
+  pub region-read : readField (regionBytes 5 (wholeBits 3)) 0 ≡ given (regionField 5 (whole 3))
+  pub nan-read : readField (factorBytes 0xfff0_0000_0000_0001) 0 ≡ given (factorField nan)
+  pub read-at-end : readField fileJ 65 ≡ refused 11
+  pub read-past-end : readField fileJ 900 ≡ refused 11
+  pub read-empty : readField [] 0 ≡ refused 11
+  pub read-unknown : readField (0 ∷ 0 ∷ 0 ∷ []) 0 ≡ refused 9
+  pub read-wrong-length : readField (1 ∷ 9 ∷ 0 ∷ []) 0 ≡ refused 10
+  pub read-cut : readField (1 ∷ 8 ∷ 0 ∷ 0 ∷ []) 0 ≡ refused 11
+  pub body-handed : fieldBody (regionBytes 5 0) 0 ≡ 5 ∷ replicate 15 0
+  pub body-refused : fieldBody fileJ 1 ≡ []
+
+pub reader : ReaderChecks
+unfolding computing fileJ unit soFar factorBytes circleBytes regionBytes eight wholeBits
+reader =
+    record {
+      empty = refl;
+      head-cut = refl;
+      later-head-cut = refl;
+      circle-first = refl;
+      second-factor = refl;
+      unknown-tag = refl;
+      circle-after-region = refl;
+      wrong-length = refl;
+      high-length = refl;
+      body-cut = refl;
+      circle-65 = refl;
+      circle-64 = refl;
+      region-2049 = refl;
+      region-2048 = refl;
+      place-first = refl;
+      bad-coordinate = refl;
+      bad-radius = refl;
+      equal-masks = refl;
+      bad-factor = refl;
+      circles-64 = refl;
+      circles-65 = refl;
+      too-long = refl;
+      long-enough = refl;
+      factor-read = refl;
+      circle-read = refl;
+      region-read = refl;
+      nan-read = refl;
+      read-at-end = refl;
+      read-past-end = refl;
+      read-empty = refl;
+      read-unknown = refl;
+      read-wrong-length = refl;
+      read-cut = refl;
+      body-handed = refl;
+      body-refused = refl;
+    }
+
+-- ---- packing and container
+
+-- a box at (9, 9), where packing does not look
+unfoldable pub box : Float → Rectangle
+box s = rectangleOf (pointAt (whole 9) (whole 9)) s s
+
+abbrev pub square : Float → Float → Float → Rectangle
+square x y s = rectangleOf (pointAt x y) s s
+
+pub record PackingChecks : Type 0 where
+  -- sides 2, 1, 2 and padding 1/2: mistake "sorting equal boxes backwards"
+  pub equal-boxes : skylinePack (box (whole 2) ∷ box one ∷ box (whole 2) ∷ []) half
+      ≡ record {
+        refusal = 0;
+        rectangles =
+            filled circleCap noRectangle
+            (square (fin false 5 (negsuc 1)) (fin false 5 (negsuc 1)) (whole 2)
+            ∷ square (fin false 23 (negsuc 1)) (fin false 5 (negsuc 1)) one
+            ∷ square (fin false 15 (negsuc 1)) (fin false 5 (negsuc 1)) (whole 2)
+            ∷ []);
+      }
+  pub bad-side : skylinePack (box (neg one) ∷ []) nan ≡ record { refusal = 7; rectangles = filled circleCap noRectangle [] }
+  pub bad-padding : skylinePack (box one ∷ []) nan ≡ record { refusal = 8; rectangles = filled circleCap noRectangle [] }
+  -- "No boxes have 0 columns."
+  pub columns-0 : columnsAnswer 0 ≡ given 0
+  pub columns-65 : columnsAnswer 65 ≡ refused 1
+  pub rows-61 : rows 61 10 ≡ 7
+  -- the container goes to the origin and the circle to its middle
+  pub container : contained (wholeCircle 5 5 1 ∷ []) (square (whole 4) (whole 4) (whole 10))
+      ≡ record { refusal = 0; container = square nought nought (whole 10); circles = wholeCircle 0 0 1 ∷ [] }
+  -- a circle that reaches past stays where step 1 left it
+  pub past : contained (wholeCircle 5 5 9 ∷ []) (square (whole 4) (whole 4) (whole 10))
+      ≡ record { refusal = 0; container = square nought nought (whole 10); circles = wholeCircle 1 1 9 ∷ [] }
+  -- after a refusal all comes back as given
+  pub bad-container : contained (wholeCircle 5 5 1 ∷ []) (square (whole 4) (whole 4) (neg one))
+      ≡ record { refusal = 7; container = square (whole 4) (whole 4) (neg one); circles = wholeCircle 5 5 1 ∷ [] }
+
+pub packs : PackingChecks
+unfolding computing box
+packs =
+    record {
+      equal-boxes = refl;
+      bad-side = refl;
+      bad-padding = refl;
+      columns-0 = refl;
+      columns-65 = refl;
+      rows-61 = refl;
+      container = refl;
+      past = refl;
+      bad-container = refl;
+    }

@@ -1,0 +1,57 @@
+-- Document 01, "Root and distance", and of "clustering.rs" the tests of circle.rs.
+use mathlib.Core.Bool.{Bool, _&&_, _||_, cond}
+use mathlib.Core.List.{[], _∷_}
+use lib.Ieee.{Float, binary64, isNan}
+use Rattle.rounding.specs.Root.{root}
+use Rattle.shapes.specs.declared.geometry.primitives.point.Point.{Point}
+use Rattle.shapes.specs.declared.geometry.shapes.circle.Circle.{Circle}
+use Rattle.scope.specs.Numbers.{_+ᶠ_, _-ᶠ_, _*ᶠ_, _<ᶠ_, _≤ᶠ_, nought, abs}
+use Rattle.scope.specs.Refusals.{Answer, answer, refusal, pointsRefusal, pairRefusal, circlePointRefusal}
+
+-- "The root is the f64 nearest the exact root; -0 gives -0, infinity itself"; refusal 12, "root of NaN or of a number below 0"
+unfoldable pub rootAnswer : Float → Answer Float
+rootAnswer x = answer (refusal ((12, isNan x || (x <ᶠ nought)) ∷ [])) (root binary64 x)
+
+-- "with x and y the coordinate differences, the stand-in is the root of (x*x + y*y), each step rounded"
+unfoldable pub distance : Point → Point → Float
+distance p q =
+    let x = p .x -ᶠ q .x in
+    let y = p .y -ᶠ q .y in
+    root binary64 (x *ᶠ x +ᶠ y *ᶠ y)
+
+-- "contains is distance + other radius <= radius"
+unfoldable pub contains : Circle → Circle → Bool
+contains a b = distance (a .center) (b .center) +ᶠ b .radius ≤ᶠ a .radius
+
+-- "`contains_point` is distance <= radius"
+unfoldable pub containsPoint : Circle → Point → Bool
+containsPoint c p = distance (c .center) p ≤ᶠ c .radius
+
+-- "intersects is strict at both ends": below the sum of the radii and above their difference
+unfoldable pub intersects : Circle → Circle → Bool
+intersects a b =
+    let d = distance (a .center) (b .center) in
+    (d <ᶠ a .radius +ᶠ b .radius) && (abs (a .radius -ᶠ b .radius) <ᶠ d)
+
+-- "The distance of two circles is that of the centres less the sum of the radii, or 0 if the first is not the larger."
+unfoldable pub circleDistance : Circle → Circle → Float
+circleDistance a b =
+    let d = distance (a .center) (b .center) in
+    let s = a .radius +ᶠ b .radius in
+    cond (s <ᶠ d) (d -ᶠ s) nought
+
+-- ---- "Distance, contains and intersects give 3 and 4 like any call."
+unfoldable pub distanceAnswer : Point → Point → Answer Float
+distanceAnswer p q = answer (pointsRefusal p q) (distance p q)
+
+unfoldable pub circleDistanceAnswer : Circle → Circle → Answer Float
+circleDistanceAnswer a b = answer (pairRefusal a b) (circleDistance a b)
+
+unfoldable pub containsAnswer : Circle → Circle → Answer Bool
+containsAnswer a b = answer (pairRefusal a b) (contains a b)
+
+unfoldable pub containsPointAnswer : Circle → Point → Answer Bool
+containsPointAnswer c p = answer (circlePointRefusal c p) (containsPoint c p)
+
+unfoldable pub intersectsAnswer : Circle → Circle → Answer Bool
+intersectsAnswer a b = answer (pairRefusal a b) (intersects a b)

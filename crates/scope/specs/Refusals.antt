@@ -1,0 +1,134 @@
+-- Document 01, the table of causes in "Records": which number comes back. Each call's checks stand below the causes.
+use Prim.Native.Nat.{ℕ, zero, suc}
+use mathlib.Core.Bool.{Bool, true, false, not, _&&_, _||_, cond}
+use mathlib.Core.List.{List, [], _∷_}
+use lib.Dec.{eqb, ltb}
+use lib.ListN.{length}
+use lib.Ieee.{Float}
+use Rattle.shapes.specs.declared.geometry.primitives.point.Point.{Point}
+use Rattle.shapes.specs.declared.geometry.shapes.circle.Circle.{Circle}
+use Rattle.shapes.specs.declared.geometry.shapes.rectangle.Rectangle.{Rectangle}
+use Rattle.scope.specs.Runs.{any}
+use Rattle.scope.specs.Limits.{circleCap, regionCap, coordinateOk, radiusOk, factorOk, sideOk, paddingOk}
+
+-- ---- "The lowest wins, but 13 goes before 2."
+unfoldable pub causes : List ℕ
+causes = 1 ∷ 13 ∷ 2 ∷ 3 ∷ 4 ∷ 5 ∷ 6 ∷ 7 ∷ 8 ∷ 9 ∷ 10 ∷ 11 ∷ 12 ∷ []
+
+-- What a call checks: numbers, and whether the cause of each holds.
+abbrev pub Checks : Type 0
+Checks = List (ℕ × Bool)
+
+-- whether a check has the number k and its cause holds
+unfoldable pub causeHolds : Checks → ℕ → Bool
+causeHolds [] k = false
+causeHolds (c ∷ cs) k = (eqb (c .0) k && c .1) || causeHolds cs k
+
+-- the first number that passes, and 0 if none does
+unfoldable pub first : (ℕ → Bool) → List ℕ → ℕ
+first p [] = 0
+first p (k ∷ ks) = cond (p k) k (first p ks)
+
+-- "A call checks only what it takes, and a number comes back only for its cause": 0 if it is accepted
+unfoldable pub refusal : Checks → ℕ
+refusal cs = first (causeHolds cs) causes
+
+-- checks that run front to back: the number of the first whose cause holds
+unfoldable pub frontToBack : Checks → ℕ
+frontToBack [] = 0
+frontToBack (c ∷ cs) = cond (c .1) (c .0) (frontToBack cs)
+
+-- an answer that is a value or a refusal
+pub data Answer (A : Type 0) : Type 0 where
+  refused : ℕ → Answer A
+  given : A → Answer A
+
+unfoldable pub answer : {A : Type 0} → ℕ → A → Answer A
+answer zero a = given a
+answer (suc k) a = refused (suc k)
+
+-- ---- the causes
+
+-- 1, "more than 64 circles or rectangles"
+unfoldable pub tooMany : ℕ → Bool
+tooMany n = ltb circleCap n
+
+-- 13, "mask and area lists of unequal length"
+unfoldable pub unequal : List ℕ → List Float → Bool
+unequal masks areas = not (eqb (length masks) (length areas))
+
+-- 2, "more than 2,048 regions"
+unfoldable pub tooManyRegions : ℕ → Bool
+tooManyRegions n = ltb regionCap n
+
+-- 3, "a coordinate or container centre not finite or out of range"
+unfoldable pub badPoint : Point → Bool
+badPoint p = not (coordinateOk (p .x) && coordinateOk (p .y))
+
+unfoldable pub badCentre : Circle → Bool
+badCentre c = badPoint (c .center)
+
+-- 4, "radius not finite or out of range"
+unfoldable pub badRadius : Circle → Bool
+badRadius c = not (radiusOk (c .radius))
+
+-- 5, "masks not rising strictly"
+unfoldable pub rising : List ℕ → Bool
+rising [] = true
+rising (a ∷ []) = true
+rising (a ∷ b ∷ l) = ltb a b && rising (b ∷ l)
+
+-- 6, "factor not finite or out of range"
+unfoldable pub badFactor : Float → Bool
+badFactor x = not (factorOk x)
+
+-- 7, "a rectangle or container side not finite or out of range"
+unfoldable pub badSide : Rectangle → Bool
+badSide r = not (sideOk (r .width) && sideOk (r .height))
+
+-- 8, "packing padding not finite or out of range"
+unfoldable pub badPadding : Float → Bool
+badPadding x = not (paddingOk x)
+
+-- ---- what each call checks; 9, 10 and 11 stand with the card file, 12 with the root
+
+-- the distance of two points
+unfoldable pub pointsRefusal : Point → Point → ℕ
+pointsRefusal p q = refusal ((3, badPoint p || badPoint q) ∷ [])
+
+-- distance, contains and intersects of two circles
+unfoldable pub pairRefusal : Circle → Circle → ℕ
+pairRefusal a b = refusal ((3, badCentre a || badCentre b) ∷ (4, badRadius a || badRadius b) ∷ [])
+
+-- `contains_point`
+unfoldable pub circlePointRefusal : Circle → Point → ℕ
+circlePointRefusal c p = refusal ((3, badCentre c || badPoint p) ∷ (4, badRadius c) ∷ [])
+
+-- `find_clusters`
+unfoldable pub circlesRefusal : List Circle → ℕ
+circlesRefusal cs = refusal ((1, tooMany (length cs)) ∷ (3, any badCentre cs) ∷ (4, any badRadius cs) ∷ [])
+
+-- `find_clusters_from_exclusive_regions`
+unfoldable pub regionsRefusal : ℕ → List ℕ → List Float → ℕ
+regionsRefusal n masks areas =
+    refusal ((1, tooMany n) ∷ (13, unequal masks areas) ∷ (2, tooManyRegions (length masks)) ∷ (5, not (rising masks)) ∷ [])
+
+-- the column answer
+unfoldable pub columnsRefusal : ℕ → ℕ
+columnsRefusal k = refusal ((1, tooMany k) ∷ [])
+
+-- packing: "does not look at a rectangle's centre"
+unfoldable pub packRefusal : List Rectangle → Float → ℕ
+packRefusal rects padding = refusal ((1, tooMany (length rects)) ∷ (7, any badSide rects) ∷ (8, badPadding padding) ∷ [])
+
+-- `normalize_layout_with_container`
+unfoldable pub containerRefusal : List Circle → Rectangle → ℕ
+containerRefusal cs container =
+    refusal ((1, tooMany (length cs)) ∷ (3, any badCentre cs || badPoint (container .center)) ∷ (4, any badRadius cs) ∷ (7, badSide container) ∷ [])
+
+-- the whole layout, `normalize_layout_with_clusters`
+unfoldable pub layoutRefusal : List Circle → Float → List ℕ → List Float → ℕ
+layoutRefusal cs factor masks areas =
+    refusal
+    ((1, tooMany (length cs)) ∷ (13, unequal masks areas) ∷ (2, tooManyRegions (length masks)) ∷ (3, any badCentre cs) ∷ (4, any badRadius cs)
+    ∷ (5, not (rising masks)) ∷ (6, badFactor factor) ∷ [])

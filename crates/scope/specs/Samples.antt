@@ -1,0 +1,95 @@
+-- Document 01, "Sample cards": (a) to (k), proved together by computation.
+use Prim.Native.Nat.{ℕ}
+use mathlib.Core.Path.{_≡_, refl}
+use mathlib.Core.Bool.{true, false}
+use mathlib.Core.List.{List, [], _∷_, _++_, map}
+use lib.IntN.{negsuc}
+use lib.Ieee.{Float, inf, fin, binary64, toBits}
+use Rattle.shapes.specs.declared.geometry.shapes.circle.Circle.{Circle}
+use Rattle.rounding.specs.Root.{root}
+use Rattle.scope.specs.Numbers.{nought, one, whole, e-10}
+use Rattle.scope.specs.Runs.{filled}
+use Rattle.scope.specs.Limits.{circleCap}
+use Rattle.scope.specs.Refusals.{given}
+use Rattle.shapes.specs.Records.{pointAt}
+use Rattle.scope.specs.Distance.{rootAnswer, containsAnswer, intersectsAnswer}
+use Rattle.scope.specs.Groups.{Grouping, areaGrouping}
+use Rattle.scope.specs.Packing.{columnsAnswer}
+use Rattle.scope.specs.Layout.{layout}
+use Rattle.scope.specs.Text.{bytes}
+use Rattle.scope.specs.Print.{cardText}
+use Rattle.scope.specs.Computing.{computing}
+
+-- the circle (x, y, radius)
+abbrev pub circleAt : Float → Float → Float → Circle
+circleAt x y r = record { center = pointAt x y; radius = r }
+
+-- the same of whole numbers
+abbrev pub wholeCircle : ℕ → ℕ → ℕ → Circle
+wholeCircle x y r = circleAt (whole x) (whole y) (whole r)
+
+-- an accepted clustering: the count, and the numbers of the circles
+abbrev pub grouped : ℕ → List ℕ → Grouping
+grouped count numbers = record { refusal = 0; count = count; numbers = filled circleCap 0 numbers }
+
+-- the file of (j): factor 0, circles (0,0,1), (10,0,1), no regions
+unfoldable pub fileJ : List ℕ
+fileJ =
+    1 ∷ 8 ∷ 0
+    ∷ 0 ∷ 0 ∷ 0 ∷ 0 ∷ 0 ∷ 0 ∷ 0 ∷ 0
+    ∷ 2 ∷ 24 ∷ 0
+    ∷ 0 ∷ 0 ∷ 0 ∷ 0 ∷ 0 ∷ 0 ∷ 0 ∷ 0
+    ∷ 0 ∷ 0 ∷ 0 ∷ 0 ∷ 0 ∷ 0 ∷ 0 ∷ 0
+    ∷ 0 ∷ 0 ∷ 0 ∷ 0 ∷ 0 ∷ 0 ∷ 0xf0 ∷ 0x3f
+    ∷ 2 ∷ 24 ∷ 0
+    ∷ 0 ∷ 0 ∷ 0 ∷ 0 ∷ 0 ∷ 0 ∷ 0x24 ∷ 0x40
+    ∷ 0 ∷ 0 ∷ 0 ∷ 0 ∷ 0 ∷ 0 ∷ 0 ∷ 0
+    ∷ 0 ∷ 0 ∷ 0 ∷ 0 ∷ 0 ∷ 0 ∷ 0xf0 ∷ 0x3f
+    ∷ []
+
+pub record SampleCards : Type 0 where
+  -- root 4 = 2
+  pub a : rootAnswer (whole 4) ≡ given (whole 2)
+  -- root 2 has bits 3ff6a09e667f3bcd
+  pub b : toBits binary64 (root binary64 (whole 2)) ≡ 0x3ff6_a09e_667f_3bcd
+  -- (0,0,3) contains (2,0,1)
+  pub c : containsAnswer (wholeCircle 0 0 3) (wholeCircle 2 0 1) ≡ given true
+  -- (0,0,1), (2,0,1) do not intersect
+  pub d : intersectsAnswer (wholeCircle 0 0 1) (wholeCircle 2 0 1) ≡ given false
+  -- equal circles contain each other and do not intersect
+  pub e : containsAnswer (wholeCircle 1 2 3) (wholeCircle 1 2 3) ≡ given true
+  pub e-apart : intersectsAnswer (wholeCircle 1 2 3) (wholeCircle 1 2 3) ≡ given false
+  -- n 4, masks 3 and 6, area 1, tolerance 1e-10: circles 0, 1, 2 in one cluster, 3 in another
+  pub f : areaGrouping 4 (3 ∷ 6 ∷ []) (one ∷ one ∷ []) e-10 ≡ grouped 2 (0 ∷ 0 ∷ 0 ∷ 1 ∷ [])
+  -- area equal to the tolerance, no link
+  pub g : areaGrouping 2 (3 ∷ []) (e-10 ∷ []) e-10 ≡ grouped 2 (0 ∷ 1 ∷ [])
+  -- infinite area, no link
+  pub h : areaGrouping 2 (3 ∷ []) (inf false ∷ []) e-10 ≡ grouped 2 (0 ∷ 1 ∷ [])
+  -- columns for 1, 3, 4, 6, 64 boxes: 2, 3, 3, 4, 11
+  pub i : map columnsAnswer (1 ∷ 3 ∷ 4 ∷ 6 ∷ 64 ∷ []) ≡ given 2 ∷ given 3 ∷ given 3 ∷ given 4 ∷ given 11 ∷ []
+  -- the file above, from its bytes to the bytes printed
+  pub j : cardText fileJ
+      ≡ bytes "circles 2 clusters 2 moved 0000000000000000 padding 0000000000000000\n"
+      ++ bytes "0 0 bff0000000000000 0000000000000000 3ff0000000000000\n"
+      ++ bytes "1 1 3ff0000000000000 0000000000000000 3ff0000000000000\n"
+  -- (0,0,2), (0,3,2), masks 1, 2, 3 of area 1: centres (-1.5,0), (1.5,0)
+  pub k : map (λ c. c .center) (layout (wholeCircle 0 0 2 ∷ wholeCircle 0 3 2 ∷ []) nought (1 ∷ 2 ∷ 3 ∷ []) (one ∷ one ∷ one ∷ []) .circles)
+      ≡ pointAt (fin true 3 (negsuc 0)) nought ∷ pointAt (fin false 3 (negsuc 0)) nought ∷ []
+
+pub sample-cards : SampleCards
+unfolding computing fileJ
+sample-cards =
+    record {
+      a = refl;
+      b = refl;
+      c = refl;
+      d = refl;
+      e = refl;
+      e-apart = refl;
+      f = refl;
+      g = refl;
+      h = refl;
+      i = refl;
+      j = refl;
+      k = refl;
+    }
