@@ -2,10 +2,9 @@
 use mathlib.Core.Path.{_≡_, refl, sym, ap, _∙_, subst}
 use mathlib.Core.Logic.{inl, inr}
 use mathlib.Core.Bool.{Bool, true, false, not, cond}
-use Prim.Native.Nat.{ℕ, zero, suc, _+_, _-_, _*_, _/_, _%_, _^_, _≤_, _<_}
+use Prim.Native.Nat.{ℕ, zero, suc, _+_, _*_, _/_, _%_, _^_, _≤_, _<_}
 use native.Mathlib.Nat.{eq-or-lt-of-le, mul-pos, le-of-suc-le-suc}
 use native.Mathlib.Omega.{arith}
-use lib.IntN.{ℤ}
 use lib.Dec.{T, leb, ltb, eqb, le→leb, nltb→le}
 use lib.Pow.{pow-pos}
 use lib.Ieee.{Float, nan, inf, fin, binary64, up, down, ofFields, ofBits, isNan, ne, fits, toBits}
@@ -14,7 +13,6 @@ use lib.Ieee.Bits.{is-true, nanBits-is, nanBits-above, ofBits-toBits, toBits-lt}
 use lib.Ieee.Exact.{HasValue}
 use lib.Ieee.Compare.{differs-from-itself}
 use Rattle.rounding.specs.Root.{root}
-use Rattle.root.specs.declared.answers.Root.{Root}
 use Rattle.root.specs.declared.answers.Root.the-variants.{Of, Refused}
 use Rattle.root.specs.Answer.{answer, refused}
 use Rattle.root.specs.Parts.{infinity, units}

@@ -1,12 +1,11 @@
 -- What a caller of `root` needs: which values it refuses, and that it gives the nearest root of every other.
 use mathlib.Core.Path.{_≡_, refl, ap, subst}
 use mathlib.Core.Bool.{Bool, true, false, not, cond}
-use Prim.Native.Nat.{ℕ, zero, suc}
+use Prim.Native.Nat.{zero, suc}
 use lib.Dec.{T}
 use lib.Ieee.{Float, nan, inf, fin, binary64, isNan}
 use Rattle.rounding.specs.Root.{root}
 use Rattle.rounding.specs.Value.{negative, Fin}
-use Rattle.root.specs.declared.answers.Root.{Root}
 use Rattle.root.specs.declared.answers.Root.the-variants.{Of, Refused}
 use Rattle.root.specs.Answer.{answer, refused}
 

@@ -1,8 +1,8 @@
 -- What the code puts together is the f64 nearest the root. With M = m * 2 ^ 54 and q the whole part of M's root, s = (q + 1) / 2 is the root halved and
 -- rounded: M lies strictly between the squares of 2 * s - 1 and 2 * s + 1, the half-way points, since it is even and the first of them is odd.
 use mathlib.Core.Path.{_≡_, refl, sym, ap, _∙_, subst}
-use mathlib.Core.Bool.{Bool, true, false, not}
-use Prim.Native.Nat.{ℕ, zero, suc, _+_, _-_, _*_, _/_, _%_, _^_, _≤_, _<_}
+use mathlib.Core.Bool.{Bool, false, not}
+use Prim.Native.Nat.{ℕ, zero, suc, _+_, _-_, _*_, _/_, _^_, _≤_, _<_}
 use native.Mathlib.Nat.{mul-pos, mul-le-mul, mul-le-mul-right, mul-lt-mul-of-pos-right, pow-succ'}
 use native.Mathlib.Omega.{arith}
 use lib.Dec.{T}
@@ -10,11 +10,11 @@ use lib.Pow.{pow-add, pow-pos}
 use lib.Ieee.{Float, nan, inf, fin, binary64, fits, ofBits, nanBits}
 use lib.Ieee.Bits.{ofBits-fits}
 use lib.Ieee.Exact.{HasValue}
-use lib.Ieee.Scale.{finite}
 use Rattle.rounding.specs.Root.{root}
-use Rattle.rounding.specs.Value.{mag, negative, Fin}
+use Rattle.rounding.specs.Value.{mag, Fin}
 use Rattle.rounding.proofs.Value.{mag-of, sign-of, fin-both}
-use Rattle.rounding.proofs.Root.{root-is-nearest, units-root-unique}
+use Rattle.rounding.proofs.Root.{root-is-nearest}
+use Rattle.rounding.proofs.UnitsRoot.{units-root-unique}
 use Rattle.root.specs.Parts.{infinity, units, one, IsSplit, IsWholeRoot}
 use Rattle.root.proofs.WholeLaws.{root-lt, le-root}
 use Rattle.root.proofs.PatternLaws.{pattern-value, joined-value, has-value-no-nan}

@@ -1,5 +1,5 @@
 -- What the root answers. Document 01, "Root and distance": the f64 nearest the exact root; -0 gives -0, infinity itself. NaN and a number below 0 are refused.
-use Prim.Native.Nat.{ℕ, zero, suc}
+use Prim.Native.Nat.{zero, suc}
 use mathlib.Core.Bool.{Bool, true, false, cond}
 use lib.Ieee.{Float, nan, inf, fin, binary64}
 use Rattle.rounding.specs.Root as rounding

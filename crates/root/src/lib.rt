@@ -16,7 +16,7 @@ const INFINITY: u64 = 9218868437227405312;
 // The sign alone.
 const MINUS_ZERO: u64 = 9223372036854775808;
 
-// The root of NaN or of a number below 0: refusal 12. -0 gives -0, and +infinity itself.
+// The f64 nearest the exact root; -0 gives -0, and +infinity itself. NaN and a number below 0 are refused, by 12.
 pub fn root(x: f64) -> Root
     ensures { λ r. ⌜ r ≡ answer x ⌝ }
 {
@@ -45,7 +45,7 @@ fn positive(b: u64) -> f64
 {
     let p = pattern::split(b);
     let w = whole::root_54(p.digits);
-    // The root has 54 digits. Its last is dropped, rounding up where it is 1: then the root is more than half-way, since a number with an
-    // odd root has an odd square, and digits * 2^54 is even. A carry out of the 53 digits goes into the exponent, as it should.
+    // One of the root's 54 digits is too many. Where it is 1 the exact root lies past half-way, since a whole root that is odd has an odd square and
+    // digits * 2^54 is even: so that digit rounds up, and there is no tie. A carry goes on into the exponent, where it belongs.
     f64::from_bits((p.half + 1) * pattern::LEADING + (w.root + 1) / 2)
 }

@@ -4,6 +4,8 @@ ghost use Rattle.root.specs.Parts.{IsWholeRoot};
 
 // 2^27: half of the 54 digits.
 const HALF: u64 = 134217728;
+// 2^32: the digits that a first estimate does not need.
+const LOWER: u64 = 4294967296;
 
 pub struct WholeRoot {
     pub root: u64,
@@ -19,7 +21,7 @@ pub fn root_54(m: u64) -> WholeRoot
     widen(m, w.root, w.left)
 }
 
-// A number near m's root. How near it is decides how long settle takes, and nothing else.
+// A number near m's root: two steps bring 7 right digits to 28. How near it is decides how long settle takes, and nothing else.
 fn estimate(m: u64) -> u64
     requires { ⌜ (2 ^ 52 ≤ m) × (m < 2 ^ 54) ⌝ }
     ensures { λ r. ⌜ r < 2 ^ 31 ⌝ }
@@ -27,12 +29,13 @@ fn estimate(m: u64) -> u64
     step(m, step(m, first(m)))
 }
 
-// Some 7 digits of the root: a parabola through it, on the upper digits of m.
+// Some 7 digits of the root, from m's upper digits: with z = m / 2^52, from 1 to 4, the parabola 0.5186 + 0.5260 * z - 0.0395 * z * z is root z but
+// for 1 part in 199. Here z is x / 2^20 and root z is the result / 2^26.
 fn first(m: u64) -> u64
     requires { ⌜ (2 ^ 52 ≤ m) × (m < 2 ^ 54) ⌝ }
     ensures { λ r. ⌜ (2 ^ 25 ≤ r) × (r < 2 ^ 31) ⌝ }
 {
-    let x = m / 4294967296;
+    let x = m / LOWER;
     34799612 + 34473 * x / 1024 - 2591 * (x * x) / 1073741824
 }
 
@@ -44,7 +47,7 @@ fn step(m: u64, s: u64) -> u64
     (s + m / s) / 2
 }
 
-// The whole part of m's root, from any number s. From an estimate neither loop turns more than once or twice.
+// The whole part of m's root, from any number s. From the estimate the loops hardly ever turn.
 fn settle(m: u64, s: u64) -> WholeRoot
     requires { ⌜ (m < 2 ^ 54) × (s < 2 ^ 31) ⌝ }
     ensures { λ r. ⌜ IsWholeRoot m (r .root) (r .left) ⌝ }

@@ -17,5 +17,7 @@ pub mod WholeRoot
 pub mod NearestRoot
 pub mod RootError
 pub mod RootUnique
+pub mod UnitsRoot
 pub mod Root
+pub mod NearestOnly
 pub mod RootTests
