@@ -1,0 +1,48 @@
+-- Tests read as statements: what `||`, `&&`, `not` and `cond` say of T.
+use Prim.Native.Nat.{ℕ, _≤_}
+use native.Mathlib.Nat.{not-le-of-lt}
+use mathlib.Core.Path.{_≡_, refl, subst}
+use mathlib.Core.Logic.{_↔_, _⊎_, inl, inr, ⊎-elim}
+use mathlib.Core.Bool.{Bool, true, false, not, _&&_, _||_, cond}
+use lib.Dec.{T, eqb, ltb, eqb→eq, eqb-refl, ltb→lt, nltb→le}
+
+pub or-iff : (a b : Bool) → T (a || b) ↔ (T a ⊎ T b)
+or-iff true b = (λ h. inl h, λ h. tt)
+or-iff false b = (λ h. inr h, ⊎-elim (λ h. absurd h) (λ h. h))
+
+pub sum-iff : {A B C D : Type 0} → A ↔ C → B ↔ D → (A ⊎ B) ↔ (C ⊎ D)
+sum-iff h k = (⊎-elim (λ a. inl (h .0 a)) (λ b. inr (k .0 b)), ⊎-elim (λ c. inl (h .1 c)) (λ d. inr (k .1 d)))
+
+pub and-iff : (a b : Bool) → T (a && b) ↔ (T a × T b)
+and-iff true b = (λ h. (tt, h), λ h. h .1)
+and-iff false b = (λ h. absurd h, λ h. h .0)
+
+pub not-iff : (b : Bool) → T (not b) ↔ (¬ T b)
+not-iff true = (λ h. absurd h, λ h. h tt)
+not-iff false = (λ h g. g, λ h. tt)
+
+pub not-not-iff : (b : Bool) → (¬ T (not b)) ↔ T b
+not-not-iff true = (λ h. tt, λ h g. g)
+not-not-iff false = (λ h. h tt, λ h. absurd h)
+
+pub cond-iff : (b x y : Bool) → T (cond b x y) ↔ ((T b × T x) ⊎ ((¬ T b) × T y))
+cond-iff true x y = (λ h. inl (tt, h), ⊎-elim (λ h. h .1) (λ h. absurd (h .0 tt)))
+cond-iff false x y = (λ h. inr ((λ t. t), h), ⊎-elim (λ h. absurd (h .0)) (λ h. h .1))
+
+pub eqb-iff : (m n : ℕ) → T (eqb m n) ↔ (m ≡ n)
+eqb-iff m n = (eqb→eq m n, λ e. subst (λ (k : ℕ). T (eqb m k)) e (eqb-refl m))
+
+pub not-ltb-iff : (m n : ℕ) → (¬ T (ltb m n)) ↔ (n ≤ m)
+not-ltb-iff m n = (λ h. nltb→le m n (not-iff (ltb m n) .1 h), λ l t. not-le-of-lt (ltb→lt m n t) l)
+
+pub tested : (b : Bool) → Dec (T b)
+tested true = yes tt
+tested false = no (λ h. h)
+
+pub is-true : (b : Bool) → T b → b ≡ true
+is-true true h = refl
+is-true false h = absurd h
+
+pub is-false : (b : Bool) → ¬ T b → b ≡ false
+is-false true h = absurd (h tt)
+is-false false h = refl

@@ -1,0 +1,17 @@
+pub mod Cases
+pub mod Runs
+pub mod Marks
+pub mod Closure
+pub mod Regions
+pub mod Chains
+pub mod Numbering
+pub mod Numbers
+pub mod Swapped
+pub mod Overlap
+pub mod AfterRefusal
+pub mod Clusters
+pub mod OneMoreRegion
+pub mod Refusals
+pub mod FrontToBack
+pub mod EntryPoints
+pub mod Accepted
