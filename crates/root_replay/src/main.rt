@@ -1,5 +1,4 @@
 // Replays a stored list of numbers and their roots, which the machine's square root gave, and prints how many of its lines agree.
-mod float;
 mod list;
 
 use libc::STDIN_FILENO;
@@ -71,7 +70,7 @@ fn agrees(text: &[u8], at: usize) -> bool
 
 // The pattern of the root's answer to a pattern.
 fn answered(pattern: u64) -> u64 {
-    let answer = root::root(float::of_pattern(pattern));
+    let answer = root::root(bits::float_of(pattern));
     match answer {
         Root::Refused(n) => REFUSED + n as u64,
         Root::Of(r) => {

@@ -4,8 +4,8 @@ use Rattle.root.proofs.AnswerLaws.{number-of-test}
 use Rattle.root_replay.proofs.answered.Statement.{statement}
 use Rattle.root_replay.proofs.answered.Tie as tie
 
-of-pattern-requires : tie.Need-of-pattern-requires
-of-pattern-requires c κs = search needs
+float-of-requires : tie.Need-float-of-requires
+float-of-requires c κs = search needs
 
 root-requires : tie.Need-root-requires
 root-requires c κs = search needs
@@ -38,7 +38,7 @@ pub answered-spec : {M : Type 1} → statement M
 answered-spec =
     tie.close
     (tie.spec
-    of-pattern-requires
+    float-of-requires
     root-requires
     enum-known-answer
     cast-result

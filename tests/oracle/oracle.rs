@@ -1,0 +1,370 @@
+// Writes records of inputs and the answers of the patched Rust, for the program `replay`: oracle KIND COUNT SEED
+// A record is a kind byte, a two-byte length and a body: the input, then the answer; all numbers little-endian. Refusals are worked out here from document
+// 01's table, since the Rust asserts or takes what comes. Either zero is written as 0, and every NaN as one.
+#[path = "../../target/oracle/eunoia.rs"]
+mod eunoia;
+
+use eunoia::*;
+use std::collections::BTreeMap;
+use std::io::Write;
+
+struct Random(u64);
+
+impl Random {
+    fn next(&mut self) -> u64 {
+        self.0 = self.0.wrapping_add(0x9e37_79b9_7f4a_7c15);
+        let mut z = self.0;
+        z = (z ^ (z >> 30)).wrapping_mul(0xbf58_476d_1ce4_e5b9);
+        z = (z ^ (z >> 27)).wrapping_mul(0x94d0_49bb_1331_11eb);
+        z ^ (z >> 31)
+    }
+    fn below(&mut self, n: u64) -> u64 {
+        self.next() % n
+    }
+    fn pick<T: Copy>(&mut self, from: &[T]) -> T {
+        from[self.below(from.len() as u64) as usize]
+    }
+    fn unit(&mut self) -> f64 {
+        (self.next() >> 11) as f64 / (1u64 << 53) as f64
+    }
+    // Any pattern at all.
+    fn any(&mut self) -> f64 {
+        match self.below(4) {
+            0 => f64::from_bits(self.next()),
+            1 => self.pick(&[0.0, -0.0, 1.0, -1.0, f64::NAN, f64::INFINITY, f64::NEG_INFINITY, f64::MIN_POSITIVE, -f64::MIN_POSITIVE, f64::MAX, 5e-324, 1e-310]),
+            2 => (self.below(41) as f64 - 20.0) / 4.0,
+            _ => (self.unit() - 0.5) * 100.0,
+        }
+    }
+    // A coordinate: mostly small whole numbers, so that circles touch, coincide and contain each other.
+    fn coordinate(&mut self, wild: u64) -> f64 {
+        if wild > 0 && self.below(wild) == 0 {
+            return self.pick(&[1048576.0, -1048576.0, above(1048576.0), -above(1048576.0), f64::NAN, f64::INFINITY, f64::NEG_INFINITY, -0.0, 1e300, 5e-324]);
+        }
+        match self.below(6) {
+            0 | 1 => self.below(21) as f64 - 10.0,
+            2 => (self.below(161) as f64 - 80.0) / 8.0,
+            3 => (self.unit() - 0.5) * 20.0,
+            4 => (self.unit() - 0.5) * 2097152.0,
+            _ => self.pick(&[0.0, -0.0, 3.0, 4.0, 1048576.0, -1048576.0]),
+        }
+    }
+    fn radius(&mut self, wild: u64) -> f64 {
+        if wild > 0 && self.below(wild) == 0 {
+            return self.pick(&[0.0, -0.0, -1.0, f64::NAN, f64::INFINITY, above(1048576.0), below(9.5367431640625e-7), f64::MIN_POSITIVE, 5e-324]);
+        }
+        match self.below(6) {
+            0 | 1 => (self.below(8) + 1) as f64,
+            2 => (self.below(64) + 1) as f64 / 8.0,
+            3 => self.unit() * 5.0 + 0.01,
+            4 => self.unit() * 1048575.0 + 1.0,
+            _ => self.pick(&[9.5367431640625e-7, 1048576.0, 5.0, 1.0]),
+        }
+    }
+    fn circle(&mut self, wild: u64) -> [f64; 3] {
+        [self.coordinate(wild), self.coordinate(wild), self.radius(wild)]
+    }
+    // A circle that touches another from inside or outside, equals it or shares its centre, or any.
+    fn beside(&mut self, c: [f64; 3], wild: u64) -> [f64; 3] {
+        let r = self.radius(0);
+        match self.below(8) {
+            0 => c,
+            1 => [c[0], c[1], r],
+            2 => [c[0] + c[2] + r, c[1], r],
+            3 => [c[0], c[1] - (c[2] + r), r],
+            4 => [c[0] + (c[2] - r), c[1], r],
+            5 => [c[0] + 3.0 * r, c[1] + 4.0 * r, 5.0 * r - c[2]],
+            _ => self.circle(wild),
+        }
+    }
+    fn area(&mut self) -> f64 {
+        match self.below(12) {
+            0 => f64::NAN,
+            1 => f64::INFINITY,
+            2 => f64::NEG_INFINITY,
+            3 => 0.0,
+            4 => -1.0,
+            5 => 1e-10,
+            6 => above(1e-10),
+            7 => self.unit() * 1e-9,
+            8 => self.any(),
+            _ => self.unit() * 10.0,
+        }
+    }
+    // Masks that rise strictly; sometimes one is repeated or out of order.
+    fn masks(&mut self, n: u64, m: usize, wild: u64) -> Vec<u64> {
+        let wide = self.below(4) == 0;
+        let top = if wide || n >= 64 { u64::MAX } else { (1u64 << n.max(2)) - 1 };
+        let mut masks: Vec<u64> = (0..m)
+            .map(|_| match self.below(4) {
+                0 => self.next() & top,
+                1 => (1u64 << self.below(64)) & top,
+                _ => ((1u64 << self.below(64)) | (1u64 << self.below(64))) & top,
+            })
+            .collect();
+        masks.sort_unstable();
+        masks.dedup();
+        if wild > 0 && masks.len() > 1 && self.below(wild) == 0 {
+            let i = self.below(masks.len() as u64 - 1) as usize;
+            if self.below(2) == 0 {
+                masks[i + 1] = masks[i];
+            } else {
+                masks.swap(i, i + 1);
+            }
+        }
+        masks
+    }
+}
+
+fn above(x: f64) -> f64 {
+    f64::from_bits(x.to_bits() + 1)
+}
+
+fn below(x: f64) -> f64 {
+    f64::from_bits(x.to_bits() - 1)
+}
+
+// ---- records
+
+#[derive(Default)]
+struct Record(Vec<u8>);
+
+impl Record {
+    fn byte(&mut self, b: usize) {
+        self.0.push(b as u8);
+    }
+    fn short(&mut self, n: usize) {
+        self.0.extend_from_slice(&(n as u16).to_le_bytes());
+    }
+    fn word(&mut self, w: u64) {
+        self.0.extend_from_slice(&w.to_le_bytes());
+    }
+    // An input, bit for bit.
+    fn float(&mut self, x: f64) {
+        self.word(x.to_bits());
+    }
+    // An answer.
+    fn result(&mut self, x: f64) {
+        self.word(if x == 0.0 { 0 } else if x.is_nan() { 0x7ff8_0000_0000_0000 } else { x.to_bits() });
+    }
+    fn bounds(&mut self, b: Bounds) {
+        for x in [b.x_min, b.x_max, b.y_min, b.y_max] {
+            self.result(x);
+        }
+    }
+    fn write(&self, kind: u8, out: &mut impl Write) {
+        let mut head = vec![kind];
+        head.extend_from_slice(&(self.0.len() as u16).to_le_bytes());
+        out.write_all(&head).unwrap();
+        out.write_all(&self.0).unwrap();
+    }
+}
+
+// ---- document 01's ranges and their order
+
+fn bad_coordinate(x: f64) -> bool {
+    !(x.abs() <= 1048576.0)
+}
+
+fn bad_point(p: [f64; 2]) -> bool {
+    bad_coordinate(p[0]) || bad_coordinate(p[1])
+}
+
+fn bad_radius(r: f64) -> bool {
+    !(9.5367431640625e-7 <= r && r <= 1048576.0)
+}
+
+fn circle(c: [f64; 3]) -> Circle {
+    Circle::new(Point::new(c[0], c[1]), c[2])
+}
+
+fn circles_refusal(circles: &[[f64; 3]]) -> usize {
+    if circles.len() > 64 {
+        1
+    } else if circles.iter().any(|c| bad_point([c[0], c[1]])) {
+        3
+    } else if circles.iter().any(|c| bad_radius(c[2])) {
+        4
+    } else {
+        0
+    }
+}
+
+fn grouped(record: &mut Record, refusal: usize, clusters: Vec<Vec<usize>>) {
+    let mut numbers = [0u8; 64];
+    let mut count = 0;
+    if refusal == 0 {
+        count = clusters.len();
+        for (number, cluster) in clusters.iter().enumerate() {
+            for &i in cluster {
+                numbers[i] = number as u8;
+            }
+        }
+    }
+    record.byte(refusal);
+    record.byte(count);
+    record.0.extend_from_slice(&numbers);
+}
+
+// ---- one record of each kind
+
+fn distance_record(random: &mut Random, record: &mut Record) {
+    let wild = random.pick(&[0, 4, 16]);
+    let p = [random.coordinate(wild), random.coordinate(wild)];
+    let q = [random.coordinate(wild), random.coordinate(wild)];
+    for x in [p[0], p[1], q[0], q[1]] {
+        record.float(x);
+    }
+    let refused = bad_point(p) || bad_point(q);
+    record.byte(if refused { 3 } else { 0 });
+    record.result(if refused { 0.0 } else { Point::new(p[0], p[1]).distance(&Point::new(q[0], q[1])) });
+}
+
+fn pair_record(random: &mut Random, record: &mut Record) {
+    let wild = random.pick(&[0, 6, 24]);
+    let a = random.circle(wild);
+    let b = random.beside(a, wild);
+    for x in [a, b].concat() {
+        record.float(x);
+    }
+    let refusal = circles_refusal(&[a, b]);
+    record.byte(refusal);
+    let (ca, cb) = (circle(a), circle(b));
+    record.result(if refusal == 0 { Distance::distance(&ca, &cb) } else { 0.0 });
+    record.byte((refusal == 0 && ca.contains(&cb)) as usize);
+    record.byte((refusal == 0 && ca.intersects(&cb)) as usize);
+}
+
+fn point_record(random: &mut Random, record: &mut Record) {
+    let wild = random.pick(&[0, 6, 24]);
+    let c = random.circle(wild);
+    let p = match random.below(4) {
+        0 => [c[0] + c[2], c[1]],
+        1 => [c[0], above(c[1] + c[2])],
+        2 => [c[0], c[1]],
+        _ => [random.coordinate(wild), random.coordinate(wild)],
+    };
+    for x in [c[0], c[1], c[2], p[0], p[1]] {
+        record.float(x);
+    }
+    let refusal = if bad_point(p) { 3 } else { circles_refusal(&[c]) };
+    record.byte(refusal);
+    record.byte((refusal == 0 && circle(c).contains_point(&Point::new(p[0], p[1]))) as usize);
+}
+
+fn some_circles(random: &mut Random) -> Vec<[f64; 3]> {
+    let n = random.pick(&[0, 1, 2, 2, 3, 3, 4, 5, 8, 13, 30, 63, 64, 65, 70]);
+    let wild = random.pick(&[0, 0, 0, 40, 400]);
+    let mut circles: Vec<[f64; 3]> = Vec::new();
+    for i in 0..n {
+        let c = if i > 0 && random.below(3) > 0 {
+            let other = circles[random.below(i) as usize];
+            random.beside(other, wild)
+        } else {
+            random.circle(wild)
+        };
+        circles.push(c);
+    }
+    circles
+}
+
+fn circles_record(random: &mut Random, record: &mut Record) {
+    let circles = some_circles(random);
+    record.byte(circles.len());
+    for c in &circles {
+        for x in c {
+            record.float(*x);
+        }
+    }
+    let refusal = circles_refusal(&circles);
+    let shapes: Vec<Circle> = circles.iter().map(|c| circle(*c)).collect();
+    grouped(record, refusal, if refusal == 0 { find_clusters(&shapes) } else { vec![] });
+}
+
+fn areas_record(random: &mut Random, record: &mut Record) {
+    let n = random.pick(&[0u64, 1, 2, 3, 4, 5, 8, 13, 40, 63, 64, 65, 70, 255]);
+    let m = random.pick(&[0usize, 1, 1, 2, 3, 4, 6, 10, 30, 100]);
+    let m = if random.below(200) == 0 { random.pick(&[2047, 2048, 2049, 2060]) } else { m };
+    let masks: Vec<u64> = if m > 1000 { (0..m as u64).map(|k| k * 0x0040_0801_0020_0401).collect() } else { random.masks(n, m, 8) };
+    let mut areas: Vec<f64> = masks.iter().map(|_| random.area()).collect();
+    if random.below(20) == 0 {
+        areas.push(1.0);
+    }
+    let tolerance = match random.below(6) {
+        0 => random.any(),
+        1 => f64::NAN,
+        2 => random.pick(&[f64::INFINITY, f64::NEG_INFINITY, 0.0, -0.0]),
+        _ => 1e-10,
+    };
+    record.byte(n as usize);
+    record.short(masks.len());
+    record.short(areas.len());
+    record.float(tolerance);
+    for w in &masks {
+        record.word(*w);
+    }
+    for a in &areas {
+        record.float(*a);
+    }
+    let refusal = if n > 64 {
+        1
+    } else if masks.len() != areas.len() {
+        13
+    } else if masks.len() > 2048 {
+        2
+    } else if masks.windows(2).any(|w| w[0] >= w[1]) {
+        5
+    } else {
+        0
+    };
+    let map: BTreeMap<usize, f64> = masks.iter().map(|w| *w as usize).zip(areas.iter().copied()).collect();
+    grouped(record, refusal, if refusal == 0 { find_clusters_from_exclusive_regions(n as usize, &map, tolerance) } else { vec![] });
+}
+
+fn boxes_record(random: &mut Random, record: &mut Record) {
+    let f: Vec<f64> = (0..9).map(|_| random.any()).collect();
+    for x in &f {
+        record.float(*x);
+    }
+    let a = Bounds::new(f[0], f[1], f[2], f[3]);
+    let b = Bounds::new(f[4], f[5], f[6], f[7]);
+    record.bounds(a.union(&b));
+    match a.intersection(&b) {
+        Some(shared) => {
+            record.byte(1);
+            record.bounds(shared);
+        }
+        None => {
+            record.byte(0);
+            record.bounds(Bounds::new(0.0, 0.0, 0.0, 0.0));
+        }
+    }
+    for x in [a.width(), a.height(), a.area()] {
+        record.result(x);
+    }
+    let lifted = Circle::from_params(&[f[0], f[1], f[8]]);
+    record.result(lifted.radius());
+    record.bounds(circle([f[0], f[1], f[8]]).bounds());
+    record.bounds(Rectangle::new(Point::new(f[4], f[5]), f[6], f[7]).bounds());
+}
+
+fn main() {
+    let words: Vec<u64> = std::env::args().skip(1).map(|w| w.parse().expect("oracle KIND COUNT SEED")).collect();
+    let (kind, count, seed) = (words[0], words[1], words[2]);
+    let mut random = Random(seed.wrapping_mul(0x1000_0000_01b3) ^ kind);
+    let stdout = std::io::stdout();
+    let mut out = std::io::BufWriter::new(stdout.lock());
+    for _ in 0..count {
+        let mut record = Record::default();
+        match kind {
+            1 => distance_record(&mut random, &mut record),
+            2 => pair_record(&mut random, &mut record),
+            3 => point_record(&mut random, &mut record),
+            4 => circles_record(&mut random, &mut record),
+            5 => areas_record(&mut random, &mut record),
+            6 => boxes_record(&mut random, &mut record),
+            _ => panic!("no such kind"),
+        }
+        record.write(kind as u8, &mut out);
+    }
+}
