@@ -1,0 +1,11 @@
+pub mod Order
+pub mod Numbers
+pub mod Finite
+pub mod Rising
+pub mod Table
+pub mod Linking
+pub mod Numbering
+pub mod AreaClusters
+pub mod Checking
+pub mod PlainClusters
+pub mod Loading

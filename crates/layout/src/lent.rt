@@ -1,0 +1,56 @@
+// Circles that a caller lends as a run, copied into an array.
+ghost use mathlib.Core.Path.{_≡_};
+ghost use Prim.Native.Nat.{_<_, _≤_, min};
+ghost use Rattle.layout.specs.Limits.{maxCircles};
+ghost use Rattle.layout.specs.Lent.{loaded, unloaded, withCircle};
+use crate::limits::MAX_CIRCLES;
+use shapes::geometry::primitives::point::Point;
+use shapes::geometry::shapes::circle::Circle;
+
+// The circles of a run, as many as there is room for, and the run's length.
+pub struct Loaded {
+    pub circles: [Circle; MAX_CIRCLES],
+    pub n: usize,
+}
+
+pub fn load(circles: &[Circle]) -> Loaded
+    ensures { λ r. ⌜ r ≡ loaded (now (circles .entry)) ⌝ }
+{
+    let mut l = unloaded(circles.len());
+    let end = room(circles.len());
+    let mut i: usize = 0;
+    while i < end {
+        l = with_circle(l, i, circles[i]);
+        i = i + 1;
+    }
+    l
+}
+
+fn unloaded(n: usize) -> Loaded
+    ensures { λ r. ⌜ r ≡ unloaded n ⌝ }
+{
+    let none = Circle {
+        center: Point { x: 0.0, y: 0.0 },
+        radius: 0.0,
+    };
+    Loaded {
+        circles: [none; MAX_CIRCLES],
+        n,
+    }
+}
+
+// How many of n circles there is room for.
+fn room(n: usize) -> usize
+    ensures { λ r. ⌜ r ≡ min n maxCircles ⌝ }
+{
+    if n < MAX_CIRCLES { n } else { MAX_CIRCLES }
+}
+
+fn with_circle(l: Loaded, i: usize, c: Circle) -> Loaded
+    requires { ⌜ i < maxCircles ⌝ }
+    ensures { λ r. ⌜ r ≡ withCircle l i c ⌝ }
+{
+    let mut m = l;
+    m.circles[i] = c;
+    m
+}

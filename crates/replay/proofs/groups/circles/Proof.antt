@@ -1,0 +1,64 @@
+use Prim.Native.Nat.{ℕ, suc, _≤_, _<_, _-_, _+_}
+use native.Mathlib.Omega.{arith}
+use borrow.Author.Needs.{needs}
+use mathlib.Core.Path.{_≡_, refl, sym, ap, _∙_}
+use mathlib.Core.Bool.{Bool, true, false, not, _&&_, _||_, cond}
+use lib.ListN.{length, getD, set}
+use Rattle.replay.proofs.groups.circles.Statement.{statement}
+use Rattle.replay.proofs.groups.circles.Tie as tie
+use Rattle.replay.proofs.groups.circles.Reads as reads
+use Rattle.replay.proofs.groups.circles.Lts as lts
+use Rattle.replay.proofs.read.circle.Reads as circle-reads
+
+abbrev Inv-loop : tie.InvT-loop
+Inv-loop body n all₀ i₀ all i = i ≤ 64
+
+abbrev μ-loop : tie.MeasureT-loop
+μ-loop body n all₀ i₀ all i = 64 - i
+
+loop-holds : tie.Need-loop-holds Inv-loop μ-loop
+loop-holds c = omega arith
+
+mul-circle : tie.Need-mul-circle Inv-loop μ-loop
+mul-circle c = omega arith
+
+add-circle : tie.Need-add-circle Inv-loop μ-loop
+add-circle c = omega arith
+
+circle-requires : tie.Need-circle-requires Inv-loop μ-loop
+circle-requires c κs = search needs
+
+mul-all : tie.Need-mul-all Inv-loop μ-loop
+mul-all c = omega arith
+
+array-set-from-all : tie.Need-array-set-from-all Inv-loop μ-loop
+array-set-from-all c = omega arith
+
+add-i : tie.Need-add-i Inv-loop μ-loop
+add-i c = omega arith
+
+loop-less : tie.Need-loop-less Inv-loop μ-loop
+loop-less c = omega arith
+
+loop-again : tie.Need-loop-again Inv-loop μ-loop
+loop-again c = omega arith
+
+returns : tie.Need-returns Inv-loop μ-loop
+returns c = omega arith
+
+pub circles-spec : {M : Type 1} → statement M
+circles-spec =
+    tie.close
+    (tie.spec
+    Inv-loop
+    μ-loop
+    loop-holds
+    mul-circle
+    add-circle
+    circle-requires
+    mul-all
+    array-set-from-all
+    add-i
+    loop-less
+    loop-again
+    returns)

@@ -1,0 +1,51 @@
+use Prim.Native.Nat.{ℕ, suc, _≤_, _<_, _-_, _+_}
+use native.Mathlib.Omega.{arith}
+use borrow.Author.Needs.{needs}
+use mathlib.Core.Path.{_≡_, refl, sym, ap, _∙_}
+use mathlib.Core.Bool.{Bool, true, false, not, _&&_, _||_, cond}
+use lib.ListN.{length, getD, set, length-take}
+use borrow.Author.Needs.{needs}
+use Rattle.replay.proofs.groups.clusters_of.Statement.{statement}
+use Rattle.replay.proofs.groups.clusters_of.Tie as tie
+use Rattle.replay.proofs.groups.clusters_of.Reads as reads
+use Rattle.replay.proofs.groups.clusters_of.Lts as lts
+use Rattle.layout.proofs.fitter.clustering.find_clusters_from_exclusive_regions.Reads as find-clusters-from-exclusive-regions-reads
+
+-- src/groups.rt:57:72
+slice-aggregate-find-clusters-from-exclusive-regions :
+    tie.Need-slice-aggregate-find-clusters-from-exclusive-regions
+slice-aggregate-find-clusters-from-exclusive-regions c = simp length-take (omega arith)
+
+-- src/groups.rt:57:85
+slice-aggregate-find-clusters-from-exclusive-regions-2 :
+    tie.Need-slice-aggregate-find-clusters-from-exclusive-regions-2
+slice-aggregate-find-clusters-from-exclusive-regions-2 c = simp length-take (omega arith)
+
+-- src/groups.rt:57:13
+find-clusters-from-exclusive-regions-requires :
+    tie.Need-find-clusters-from-exclusive-regions-requires
+find-clusters-from-exclusive-regions-requires c κs = search needs
+
+-- src/groups.rt:57:13
+returns : tie.Need-returns
+returns c = search needs
+
+-- src/groups.rt:60:5
+find-clusters-from-exclusive-regions-requires-2 :
+    tie.Need-find-clusters-from-exclusive-regions-requires-2
+find-clusters-from-exclusive-regions-requires-2 c κs = search needs
+
+-- src/groups.rt:54:1
+returns-2 : tie.Need-returns-2
+returns-2 c = search needs
+
+pub clusters-of-spec : {M : Type 1} → statement M
+clusters-of-spec =
+    tie.close
+    (tie.spec
+    slice-aggregate-find-clusters-from-exclusive-regions
+    slice-aggregate-find-clusters-from-exclusive-regions-2
+    find-clusters-from-exclusive-regions-requires
+    returns
+    find-clusters-from-exclusive-regions-requires-2
+    returns-2)

@@ -1,0 +1,62 @@
+// Bounds, the lift, and the boxes of circle and rectangle, none of which refuses.
+use crate::read;
+use shapes::geometry::primitives::bounds::Bounds;
+use shapes::geometry::primitives::bounds::Overlap;
+use shapes::geometry::primitives::point::Point;
+use shapes::geometry::shapes::circle::Circle;
+use shapes::geometry::shapes::rectangle::Rectangle;
+
+// Two boxes and a radius; the union, whether and what they share, width, height and area, the lifted radius, the box of the circle and that of the rectangle.
+pub fn boxes_agree(body: &[u8]) -> bool {
+    if body.len() != 233 {
+        return false;
+    }
+    let a = read::bounds(body, 0);
+    let b = read::bounds(body, 32);
+    let radius = read::float(body, 64);
+    read::is_bounds(body, 72, a.union(b))
+        && shared(body, 104, a.intersection(b))
+        && read::is_result(body, 137, a.width())
+        && read::is_result(body, 145, a.height())
+        && read::is_result(body, 153, a.area())
+        && circle(body, a, radius)
+        && rectangle(body, b)
+}
+
+fn shared(body: &[u8], at: usize, overlap: Overlap) -> bool {
+    if at > 65536 {
+        return false;
+    }
+    match overlap {
+        Overlap::Box(b) => read::byte(body, at) == 1 && read::is_bounds(body, at + 1, b),
+        Overlap::Empty => {
+            read::byte(body, at) == 0
+                && read::is_bounds(body, at + 1, Bounds::new(0.0, 0.0, 0.0, 0.0))
+        }
+    }
+}
+
+fn circle(body: &[u8], a: Bounds, radius: f64) -> bool {
+    let lifted = Circle::from_params(a.x_min, a.x_max, radius);
+    let c = Circle {
+        center: Point {
+            x: a.x_min,
+            y: a.x_max,
+        },
+        radius,
+    };
+    read::is_result(body, 161, lifted.radius()) && read::is_bounds(body, 169, c.bounds())
+}
+
+fn rectangle(body: &[u8], b: Bounds) -> bool {
+    let center = Point {
+        x: b.x_min,
+        y: b.x_max,
+    };
+    let r = Rectangle {
+        center,
+        width: b.y_min,
+        height: b.y_max,
+    };
+    read::is_bounds(body, 201, r.bounds())
+}

@@ -1,0 +1,66 @@
+// Numbers of a body. What lies past its end counts as 0; a body of a wrong length is refused before.
+use shapes::geometry::primitives::bounds::Bounds;
+use shapes::geometry::primitives::point::Point;
+use shapes::geometry::shapes::circle::Circle;
+
+pub fn byte(body: &[u8], at: usize) -> u8 {
+    if at < body.len() { body[at] } else { 0 }
+}
+
+pub fn float(body: &[u8], at: usize) -> f64 {
+    bits::float_of(bits::word_at(body, at))
+}
+
+// Whether the word at a place is a result's pattern, a zero's sign aside.
+pub fn is_result(body: &[u8], at: usize, x: f64) -> bool {
+    bits::word_at(body, at) == bits::bits_of(x)
+}
+
+pub fn point(body: &[u8], at: usize) -> Point {
+    if at < 65536 {
+        Point::new(float(body, at), float(body, at + 8))
+    } else {
+        Point::new(0.0, 0.0)
+    }
+}
+
+pub fn circle(body: &[u8], at: usize) -> Circle {
+    if at < 65536 {
+        Circle {
+            center: Point {
+                x: float(body, at),
+                y: float(body, at + 8),
+            },
+            radius: float(body, at + 16),
+        }
+    } else {
+        Circle {
+            center: Point { x: 0.0, y: 0.0 },
+            radius: 0.0,
+        }
+    }
+}
+
+pub fn bounds(body: &[u8], at: usize) -> Bounds {
+    if at < 65536 {
+        Bounds::new(
+            float(body, at),
+            float(body, at + 8),
+            float(body, at + 16),
+            float(body, at + 24),
+        )
+    } else {
+        Bounds::new(0.0, 0.0, 0.0, 0.0)
+    }
+}
+
+pub fn is_bounds(body: &[u8], at: usize, b: Bounds) -> bool {
+    if at < 65536 {
+        is_result(body, at, b.x_min)
+            && is_result(body, at + 8, b.x_max)
+            && is_result(body, at + 16, b.y_min)
+            && is_result(body, at + 24, b.y_max)
+    } else {
+        false
+    }
+}
