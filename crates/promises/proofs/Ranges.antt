@@ -1,0 +1,112 @@
+-- What document 01's ranges say of a number in units: an accepted coordinate is finite and within 2^20, an accepted radius is finite, above 0, at most 2^20 and kept by the lift.
+use mathlib.Core.Path.{_≡_}
+use mathlib.Core.Bool.{true, false}
+use Prim.Native.Nat.{_≤_, _<_}
+use native.Mathlib.Omega.{arith}
+use lib.Dec.{T, lit≤}
+use lib.IntN.{pos}
+use lib.Ieee.{Float, nan, inf, fin, binary64, neg, lt, eq, le, fits}
+use lib.Ieee.Scale.{finite}
+use Rattle.algebra.specs.Integer.{Z, nat, opp, Within, _≼_}
+use Rattle.rounding.specs.Value.{mag, negative, val, Fin}
+use Rattle.rounding.specs.Scale.{pow2}
+use Rattle.rounding.proofs.Value.{fin-both, val-mag}
+use Rattle.rounding.proofs.Double.{pow2-le}
+use Rattle.rounding.proofs.Order.{le-is}
+use Rattle.shapes.specs.declared.geometry.shapes.circle.Circle.{Circle}
+use Rattle.shapes.specs.Limits.{smallestRadius, largestRadius}
+use Rattle.shapes.specs.Lift.{lift}
+use Rattle.shapes.proofs.Lift.{lift-keeps-accepted}
+use Rattle.scope.specs.Limits.{within, coordinateOk, radiusOk}
+use Rattle.scope.specs.Promises.{units}
+use Rattle.promises.proofs.Cases.{and-iff, is-true}
+use Rattle.promises.proofs.Magnitude.{above-zero-sign}
+use Rattle.promises.proofs.Carried.{Placed, centreBound}
+
+-- ---- between two finite ends
+finite-between : (lo hi x : Float) → Fin binary64 lo → Fin binary64 hi → T (le lo x) → T (le x hi) → T (finite x)
+unfolding Fin le lt eq
+finite-between nan hi x p q h k = absurd p
+finite-between (inf s) hi x p q h k = absurd p
+finite-between (fin s m e) nan x p q h k = absurd q
+finite-between (fin s m e) (inf t) x p q h k = absurd q
+finite-between (fin s m e) (fin t n d) nan p q h k = absurd h
+finite-between (fin s m e) (fin t n d) (inf true) p q h k = absurd h
+finite-between (fin s m e) (fin t n d) (inf false) p q h k = absurd k
+finite-between (fin s m e) (fin t n d) (fin u a b) p q h k = tt
+
+record Between (lo hi : Z) (x : Float) : Type 0 where
+  fin : Fin binary64 x
+  above : lo ≼ units x
+  below : units x ≼ hi
+
+within-is-between : (lo hi x : Float) → Fin binary64 lo → Fin binary64 hi → T (fits binary64 x) → T (within lo hi x) → Between (units lo) (units hi) x
+unfolding within
+within-is-between lo hi x p q t h =
+    let both = and-iff (le lo x) (le x hi) .0 h in
+    let f = fin-both binary64 x (finite-between lo hi x p q (both .0) (both .1)) t in
+    record { fin = f; above = le-is binary64 lo x p f .0 (both .0); below = le-is binary64 x hi f q .0 (both .1) }
+
+-- ---- coordinates
+pub record Coordinate (x : Float) : Type 0 where
+  pub fin : Fin binary64 x
+  pub within : Within (units x) (pow2 80)
+
+coordinate-between : (x : Float) → T (fits binary64 x) → T (coordinateOk x) → Between (opp (nat (pow2 80))) (nat (pow2 80)) x
+unfolding coordinateOk Fin fits neg val mag negative pow2
+coordinate-between x t h = within-is-between (neg (fin false 1 (pos 20))) (fin false 1 (pos 20)) x tt tt t h
+
+pub coordinate-accepted : (x : Float) → T (fits binary64 x) → T (coordinateOk x) → Coordinate x
+coordinate-accepted x t h =
+    let b = coordinate-between x t h in
+    let lo = b .above in
+    let hi = b .below in
+    record { fin = b .fin; within = omega arith }
+
+-- ---- radii
+pub record Radius (r : Float) : Type 0 where
+  pub fin : Fin binary64 r
+  pub sign : negative r ≡ false
+  pub positive : 0 < mag binary64 r
+  pub small : mag binary64 r ≤ pow2 80
+  pub lifted : lift r ≡ r
+
+radius-between : (r : Float) → T (fits binary64 r) → T (radiusOk r) → Between (nat (pow2 40)) (nat (pow2 80)) r
+unfolding radiusOk smallestRadius largestRadius Fin fits val mag negative pow2
+radius-between r t h = within-is-between smallestRadius largestRadius r tt tt t h
+
+smallest-positive : 1 ≤ pow2 40
+unfolding pow2
+smallest-positive = lit≤ tt
+
+pub radius-accepted : (r : Float) → T (fits binary64 r) → T (radiusOk r) → Radius r
+radius-accepted r t h =
+    let b = radius-between r t h in
+    let lo = b .above in
+    let s = above-zero-sign r (omega (arith, smallest-positive)) in
+    let lower = rw (val-mag binary64 r s) at lo in
+    let upper = rw (val-mag binary64 r s) at (b .below) in
+    record { fin = b .fin; sign = s; positive = omega (arith, smallest-positive); small = omega arith; lifted = unfold radiusOk within in lift-keeps-accepted r (is-true _ h) }
+
+-- ---- an accepted circle
+pub record Sound (c : Circle) : Type 0 where
+  pub x : Coordinate (c .center .x)
+  pub y : Coordinate (c .center .y)
+  pub radius : Radius (c .radius)
+
+-- its floats are f64, and 01's two ranges hold
+pub circle-accepted : (c : Circle) → T (fits binary64 (c .center .x)) → T (fits binary64 (c .center .y)) → T (fits binary64 (c .radius))
+    → T (coordinateOk (c .center .x)) → T (coordinateOk (c .center .y)) → T (radiusOk (c .radius)) → Sound c
+circle-accepted c fx fy fr x y r = record { x = coordinate-accepted (c .center .x) fx x; y = coordinate-accepted (c .center .y) fy y; radius = radius-accepted (c .radius) fr r }
+
+pub sound-placed : (c : Circle) → Sound c → Placed centreBound c
+sound-placed c s = record {
+  fin-x = s .x .fin;
+  fin-y = s .y .fin;
+  within-x = wider (units (c .center .x)) (s .x .within);
+  within-y = wider (units (c .center .y)) (s .y .within);
+  lifted = s .radius .lifted;
+}
+  where
+    wider : (x : Z) → Within x (pow2 80) → Within x centreBound
+    wider x h = omega (arith, pow2-le 80 81 tt)
