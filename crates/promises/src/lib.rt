@@ -1,1 +1,1 @@
-// Theorems about the definitions of scope: what the closure, the numbers and the refusals mean. No functions.
+// Theorems about the definitions of `scope`: closure and chains, refusals, and the four promises of a layout. No functions.
