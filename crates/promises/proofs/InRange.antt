@@ -45,7 +45,7 @@ within-between lo hi x p q f t =
     record { fin = F; from = le-is binary64 lo x p F .0 (h .0); to = le-is binary64 x hi F q .0 (h .1) }
 
 -- ---- radii: 2^-20 to 2^20
-radius-between : (r : Float) → T (fits binary64 r) → T (radiusOk r) → Between (nat (pow2 40)) (nat (pow2 80)) r
+pub radius-between : (r : Float) → T (fits binary64 r) → T (radiusOk r) → Between (nat (pow2 40)) (nat (pow2 80)) r
 unfolding radiusOk smallestRadius largestRadius Fin fits val mag negative pow2
 radius-between r f t = within-between smallestRadius largestRadius r tt tt f t
 

@@ -20,32 +20,9 @@ use Rattle.shapes.proofs.Lift.{lift-keeps-accepted}
 use Rattle.scope.specs.Limits.{within, coordinateOk, radiusOk}
 use Rattle.scope.specs.Promises.{units}
 use Rattle.promises.proofs.Cases.{and-iff, is-true}
+use Rattle.promises.proofs.InRange.{Between, within-between, radius-between, radius-lifted}
 use Rattle.promises.proofs.Magnitude.{above-zero-sign}
 use Rattle.promises.proofs.Carried.{Placed, centreBound}
-
--- ---- between two finite ends
-finite-between : (lo hi x : Float) → Fin binary64 lo → Fin binary64 hi → T (le lo x) → T (le x hi) → T (finite x)
-unfolding Fin le lt eq
-finite-between nan hi x p q h k = absurd p
-finite-between (inf s) hi x p q h k = absurd p
-finite-between (fin s m e) nan x p q h k = absurd q
-finite-between (fin s m e) (inf t) x p q h k = absurd q
-finite-between (fin s m e) (fin t n d) nan p q h k = absurd h
-finite-between (fin s m e) (fin t n d) (inf true) p q h k = absurd h
-finite-between (fin s m e) (fin t n d) (inf false) p q h k = absurd k
-finite-between (fin s m e) (fin t n d) (fin u a b) p q h k = tt
-
-record Between (lo hi : Z) (x : Float) : Type 0 where
-  fin : Fin binary64 x
-  above : lo ≼ units x
-  below : units x ≼ hi
-
-within-is-between : (lo hi x : Float) → Fin binary64 lo → Fin binary64 hi → T (fits binary64 x) → T (within lo hi x) → Between (units lo) (units hi) x
-unfolding within
-within-is-between lo hi x p q t h =
-    let both = and-iff (le lo x) (le x hi) .0 h in
-    let f = fin-both binary64 x (finite-between lo hi x p q (both .0) (both .1)) t in
-    record { fin = f; above = le-is binary64 lo x p f .0 (both .0); below = le-is binary64 x hi f q .0 (both .1) }
 
 -- ---- coordinates
 pub record Coordinate (x : Float) : Type 0 where
@@ -54,13 +31,13 @@ pub record Coordinate (x : Float) : Type 0 where
 
 coordinate-between : (x : Float) → T (fits binary64 x) → T (coordinateOk x) → Between (opp (nat (pow2 80))) (nat (pow2 80)) x
 unfolding coordinateOk Fin fits neg val mag negative pow2
-coordinate-between x t h = within-is-between (neg (fin false 1 (pos 20))) (fin false 1 (pos 20)) x tt tt t h
+coordinate-between x t h = within-between (neg (fin false 1 (pos 20))) (fin false 1 (pos 20)) x tt tt t h
 
 pub coordinate-accepted : (x : Float) → T (fits binary64 x) → T (coordinateOk x) → Coordinate x
 coordinate-accepted x t h =
     let b = coordinate-between x t h in
-    let lo = b .above in
-    let hi = b .below in
+    let lo = b .from in
+    let hi = b .to in
     record { fin = b .fin; within = omega arith }
 
 -- ---- radii
@@ -71,10 +48,6 @@ pub record Radius (r : Float) : Type 0 where
   pub small : mag binary64 r ≤ pow2 80
   pub lifted : lift r ≡ r
 
-radius-between : (r : Float) → T (fits binary64 r) → T (radiusOk r) → Between (nat (pow2 40)) (nat (pow2 80)) r
-unfolding radiusOk smallestRadius largestRadius Fin fits val mag negative pow2
-radius-between r t h = within-is-between smallestRadius largestRadius r tt tt t h
-
 smallest-positive : 1 ≤ pow2 40
 unfolding pow2
 smallest-positive = lit≤ tt
@@ -82,11 +55,11 @@ smallest-positive = lit≤ tt
 pub radius-accepted : (r : Float) → T (fits binary64 r) → T (radiusOk r) → Radius r
 radius-accepted r t h =
     let b = radius-between r t h in
-    let lo = b .above in
+    let lo = b .from in
     let s = above-zero-sign r (omega (arith, smallest-positive)) in
     let lower = rw (val-mag binary64 r s) at lo in
-    let upper = rw (val-mag binary64 r s) at (b .below) in
-    record { fin = b .fin; sign = s; positive = omega (arith, smallest-positive); small = omega arith; lifted = unfold radiusOk within in lift-keeps-accepted r (is-true _ h) }
+    let upper = rw (val-mag binary64 r s) at (b .to) in
+    record { fin = b .fin; sign = s; positive = omega (arith, smallest-positive); small = omega arith; lifted = radius-lifted r h }
 
 -- ---- an accepted circle
 pub record Sound (c : Circle) : Type 0 where

@@ -5,6 +5,7 @@ use Prim.Native.Nat.{ℕ, _+_, _*_, _^_, _<_}
 use native.Mathlib.Nat.{mul-pos, lt-of-mul-lt-mul-right, mul-lt-mul-of-pos-right, eq-of-mul-eq-mul-right, eq-or-lt-of-le}
 use native.Mathlib.Omega.{arith}
 use mathlib.Core.Bool.{Bool, true, false, _&&_, _||_}
+use lib.IntN.{ℤ}
 use lib.Dec.{T, eqb, eqb→eq, ltb→lt, lt→ltb}
 use lib.Pow.{pow-pos}
 use lib.Ieee.{Float, nan, inf, fin, Format, low, up, down, lt, le, eq, below, level}
@@ -63,29 +64,31 @@ module _ (a b c A B l : ℕ) (C : 0 < c) (L : 0 < l) (p : a * l ≡ A * c) (q : 
   level-is true true = (λ h. let x = same-sign .0 h in omega arith, λ h. same-sign .1 (omega arith))
 
 -- ---- the laws
-pub lt-is : (f : Format) (x y : Float) → Fin f x → Fin f y → T (lt x y) ↔ (val f x ≺ val f y)
-unfolding lt val Fin
-lt-is f nan y p q = absurd p
-lt-is f (inf s) y p q = absurd p
-lt-is f (fin s m e) nan p q = absurd q
-lt-is f (fin s m e) (inf t) p q = absurd q
-lt-is f (fin s m e) (fin t n d) p q =
-    below-is (m * up e * down d) (n * up d * down e) (down e * down d) (mag f (fin s m e)) (mag f (fin t n d)) (2 ^ low f) (mul-pos (down-pos e) (down-pos d)) (pow-pos (low f))
+-- what holds of two finite floats over their common denominator, which is a * 2 ^ low = A * c and b * 2 ^ low = B * c, holds of their values
+on-finite : (f : Format) (P : Float → Float → Type 0)
+    → ((s t : Bool) (m n : ℕ) (e d : ℤ) → (c : ℕ) → 0 < c → m * up e * down d * 2 ^ low f ≡ mag f (fin s m e) * c → n * up d * down e * 2 ^ low f ≡ mag f (fin t n d) * c → P (fin s m e) (fin t n d))
+    → (x y : Float) → Fin f x → Fin f y → P x y
+unfolding Fin
+on-finite f P h nan y p q = absurd p
+on-finite f P h (inf s) y p q = absurd p
+on-finite f P h (fin s m e) nan p q = absurd q
+on-finite f P h (fin s m e) (inf t) p q = absurd q
+on-finite f P h (fin s m e) (fin t n d) p q =
+    h s t m n e d (down e * down d) (mul-pos (down-pos e) (down-pos d))
     (over-left (m * up e) (down e) (2 ^ low f) (mag f (fin s m e)) (down d) (value-of f (fin s m e) p .1))
     (over-right (n * up d) (down d) (2 ^ low f) (mag f (fin t n d)) (down e) (value-of f (fin t n d) q .1))
-    s t
+
+pub lt-is : (f : Format) (x y : Float) → Fin f x → Fin f y → T (lt x y) ↔ (val f x ≺ val f y)
+unfolding lt val
+lt-is f =
+    on-finite f (λ x y. T (lt x y) ↔ (val f x ≺ val f y))
+    (λ s t m n e d c C p q. below-is (m * up e * down d) (n * up d * down e) c (mag f (fin s m e)) (mag f (fin t n d)) (2 ^ low f) C (pow-pos (low f)) p q s t)
 
 pub eq-is : (f : Format) (x y : Float) → Fin f x → Fin f y → T (eq x y) ↔ (val f x ≈ val f y)
-unfolding eq val Fin
-eq-is f nan y p q = absurd p
-eq-is f (inf s) y p q = absurd p
-eq-is f (fin s m e) nan p q = absurd q
-eq-is f (fin s m e) (inf t) p q = absurd q
-eq-is f (fin s m e) (fin t n d) p q =
-    level-is (m * up e * down d) (n * up d * down e) (down e * down d) (mag f (fin s m e)) (mag f (fin t n d)) (2 ^ low f) (mul-pos (down-pos e) (down-pos d)) (pow-pos (low f))
-    (over-left (m * up e) (down e) (2 ^ low f) (mag f (fin s m e)) (down d) (value-of f (fin s m e) p .1))
-    (over-right (n * up d) (down d) (2 ^ low f) (mag f (fin t n d)) (down e) (value-of f (fin t n d) q .1))
-    s t
+unfolding eq val
+eq-is f =
+    on-finite f (λ x y. T (eq x y) ↔ (val f x ≈ val f y))
+    (λ s t m n e d c C p q. level-is (m * up e * down d) (n * up d * down e) c (mag f (fin s m e)) (mag f (fin t n d)) (2 ^ low f) C (pow-pos (low f)) p q s t)
 
 or-split : (a b : Bool) → T (a || b) → T a ⊎ T b
 or-split true b t = inl tt
