@@ -4,10 +4,9 @@ use native.Mathlib.Omega.{arith}
 use native.Mathlib.Numerals.{add-one}
 use native.Mathlib.Decide.{decLt, ℕ-discrete}
 use mathlib.Core.Path.{_≡_, refl, sym, ap, _∙_}
-use mathlib.Core.List.{List, []}
+use mathlib.Core.List.{List}
 use lib.ListN.{length, getD, set, replicate}
 use lib.Seq.{getD-set-same, getD-set-other, ext-getD}
-use lib.Dec.{T}
 use Rattle.scope.specs.Runs.{many, least, tab, filled}
 use Rattle.scope.specs.Limits.{circleCap}
 use Rattle.scope.specs.Closure.{Marks, at}

@@ -1,13 +1,12 @@
 -- Numbers of the code and of scope: the size of a number by its sign, and where there is no root.
-use Prim.Native.Nat.{ℕ, zero, suc, _+_, _*_, _<_}
+use Prim.Native.Nat.{ℕ, zero, suc, _+_, _*_}
 use native.Mathlib.Omega.{arith}
 use native.Mathlib.Nat.{mul-pos}
 use mathlib.Core.Path.{_≡_, refl, sym, ap, _∙_}
-use mathlib.Core.Bool.{Bool, true, false, _&&_, cond, false≢true}
+use mathlib.Core.Bool.{Bool, true, false, _&&_, false≢true}
 use lib.IntN.{ℤ, pos, negsuc}
-use lib.Pow.{pow-pos, pow-lt}
-use lib.Dec.{eqb, ltb}
-use lib.Ieee.{Float, nan, inf, fin, binary64, ofBits, neg, lt, eq, div, up, down, fits}
+use lib.Pow.{pow-lt}
+use lib.Ieee.{Float, nan, inf, fin, binary64, ofBits, neg, lt, eq, up, down, fits}
 use lib.Ieee.Fits.{up-pos}
 use borrow.Author.Tests.{ltb-true, ltb-false, eqb-true, eq-eqb}
 use Rattle.rounding.specs.Root.{root}

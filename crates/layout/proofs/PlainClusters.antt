@@ -1,7 +1,7 @@
 -- The clustering of the first n circles of an array: what is known once it is accepted, and what its answer is.
-use Prim.Native.Nat.{ℕ, zero, suc, _-_, _≤_, _<_}
+use Prim.Native.Nat.{ℕ, zero, suc, _-_, _≤_}
 use native.Mathlib.Omega.{arith}
-use mathlib.Core.Path.{_≡_, refl, sym, ap, _∙_, subst}
+use mathlib.Core.Path.{_≡_, refl, sym, _∙_}
 use mathlib.Core.Logic.{_≢_}
 use mathlib.Core.Bool.{Bool, true, false, cond}
 use mathlib.Core.List.{List}
@@ -13,7 +13,7 @@ use Rattle.scope.specs.Limits.{circleCap}
 use Rattle.scope.specs.Refusals.{frontToBack, tooMany, circlesRefusal}
 use Rattle.scope.specs.Links.{linkedByCircles, nowhere}
 use Rattle.scope.specs.Closure.{Marks, marked, closure}
-use Rattle.scope.specs.Groups.{Clusters, clustersOf, plainClusters, Grouping, grouping, plainGrouping}
+use Rattle.scope.specs.Groups.{Clusters, clustersOf, plainClusters, grouping, plainGrouping}
 use Rattle.promises.proofs.Marks.{marked-equal}
 use Rattle.promises.proofs.Closure.{Equivalence}
 use Rattle.promises.proofs.Clusters.{circles-equivalence}

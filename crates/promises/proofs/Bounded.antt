@@ -46,10 +46,6 @@ signed-size : (s : Bool) (a b : ℕ) → Within (signed s a) b → a ≤ b
 signed-size true a b h = omega arith
 signed-size false a b h = omega arith
 
-pub mag-at-most : (x : Float) (b : ℕ) → Within (units x) b → mag binary64 x ≤ b
-unfolding val
-mag-at-most x b h = signed-size (negative x) (mag binary64 x) b h
-
 pub within-mag : (x : Float) (b : ℕ) → negative x ≡ false → mag binary64 x ≤ b → Within (units x) b
 within-mag x b s h = rw (val-mag binary64 x s) (omega arith)
 
@@ -82,15 +78,15 @@ pub record IsHalf (z : Float) (x : Z) : Type 0 where
   pub fin : Fin binary64 z
   pub near : Near (units z ⊕ units z) x 1
 
-two-finite : Fin binary64 two
+pub two-finite : Fin binary64 two
 unfolding Fin fits
 two-finite = tt
 
-two-size : mag binary64 two ≡ 2 * 2 ^ low binary64
+pub two-size : mag binary64 two ≡ 2 * 2 ^ low binary64
 unfolding mag
 two-size = refl
 
-two-sign : negative two ≡ false
+pub two-sign : negative two ≡ false
 unfolding negative
 two-sign = refl
 

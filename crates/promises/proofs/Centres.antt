@@ -20,14 +20,9 @@ use Rattle.scope.specs.Numbers.{_+ᶠ_, _/ᶠ_, two}
 use Rattle.scope.specs.Runs.{gather}
 use Rattle.scope.specs.Gauge.{nothing, middle}
 use Rattle.scope.specs.Promises.{units}
+use Rattle.promises.proofs.Bounded.{Bounded, two-finite, two-sign, two-size}
 use Rattle.promises.proofs.Cases.{tested}
 use Rattle.promises.proofs.Runs.{gather-takes, gather-leaves, gather-keeps}
-use Rattle.promises.proofs.Mirror.{two-fin, two-sign, two-size}
-
--- finite, and within b
-pub record Inside (b : ℕ) (x : Float) : Type 0 where
-  pub fin : Fin binary64 x
-  pub within : Within (units x) b
 
 -- ---- from infinity, the first value taken is the end
 pub minimum-from-infinity : (x : Float) → Fin binary64 x → minimum (inf false) x ≡ x
@@ -44,10 +39,10 @@ maximum-from-infinity (fin s m e) p = refl
 
 -- ---- boxes
 pub record EndsInside (b : ℕ) (box : Bounds) : Type 0 where
-  pub x-min : Inside b (box .«x_min»)
-  pub x-max : Inside b (box .«x_max»)
-  pub y-min : Inside b (box .«y_min»)
-  pub y-max : Inside b (box .«y_max»)
+  pub x-min : Bounded b (box .«x_min»)
+  pub x-max : Bounded b (box .«x_max»)
+  pub y-min : Bounded b (box .«y_min»)
+  pub y-max : Bounded b (box .«y_max»)
 
 -- before a member is taken, and after
 abbrev SoFar : ℕ → Bounds → Type 0
@@ -65,10 +60,10 @@ taken-first b c h = record {
 taken : (b : ℕ) (a c : Bounds) → SoFar b a → EndsInside b c → EndsInside b (unionOf a c)
 taken b a c (inl e) h = subst (λ (z : Bounds). EndsInside b (unionOf z c)) (sym e) (taken-first b c h)
 taken b a c (inr g) h = record {
-  x-min = minimum-either (Inside b) (a .«x_min») (c .«x_min») (g .x-min) (h .x-min);
-  x-max = maximum-either (Inside b) (a .«x_max») (c .«x_max») (g .x-max) (h .x-max);
-  y-min = minimum-either (Inside b) (a .«y_min») (c .«y_min») (g .y-min) (h .y-min);
-  y-max = maximum-either (Inside b) (a .«y_max») (c .«y_max») (g .y-max) (h .y-max);
+  x-min = minimum-either (Bounded b) (a .«x_min») (c .«x_min») (g .x-min) (h .x-min);
+  x-max = maximum-either (Bounded b) (a .«x_max») (c .«x_max») (g .x-max) (h .x-max);
+  y-min = minimum-either (Bounded b) (a .«y_min») (c .«y_min») (g .y-min) (h .y-min);
+  y-max = maximum-either (Bounded b) (a .«y_max») (c .«y_max») (g .y-max) (h .y-max);
 }
 
 -- the union of the boxes that `member` takes, where it takes one
@@ -90,9 +85,9 @@ half-within z s b h w = omega arith
 
 halved-near : (x : Float) → Fin binary64 x → Fin binary64 (x /ᶠ two) × Near (units (x /ᶠ two) ⊕ units (x /ᶠ two)) (units x) 1
 unfolding val
-halved-near x p = let h = over-two binary64 x two p two-fin two-sign two-size in (h .fin, h .near)
+halved-near x p = let h = over-two binary64 x two p two-finite two-sign two-size in (h .fin, h .near)
 
-pub middle-inside : (lo hi : Float) → Inside (pow2 85) lo → Inside (pow2 85) hi → Inside (pow2 85) (middle lo hi)
+pub middle-inside : (lo hi : Float) → Bounded (pow2 85) lo → Bounded (pow2 85) hi → Bounded (pow2 85) (middle lo hi)
 middle-inside lo hi p q =
     let s = add64 32 tt lo hi (p .fin) (q .fin) (omega (arith, p .within, q .within, pow2-scale 85 1)) in
     let sum-within : Within (units (lo +ᶠ hi)) (2 * pow2 85) = let w = s .within in omega (arith, pow2-scale 85 1) in

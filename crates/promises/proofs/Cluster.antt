@@ -24,7 +24,8 @@ use Rattle.promises.proofs.Turn.{turn-is-unit, not-level-some}
 use Rattle.promises.proofs.Carried.{Motion, Carried, Placed, carried-loosely, still, stays}
 use Rattle.promises.proofs.Rotate.{turnAbout, rotation-carries}
 use Rattle.promises.proofs.Mirror.{applied, mirroredBy, mirrors-carry}
-use Rattle.promises.proofs.Centres.{Inside, EndsInside, union-inside, middle-inside}
+use Rattle.promises.proofs.Centres.{EndsInside, union-inside, middle-inside}
+use Rattle.promises.proofs.Bounded.{Bounded}
 
 -- ---- the circles of a cluster changed, where b says so
 module _ (member : ℕ → Bool) (f : Circle → Circle) (cs : List Circle) where
@@ -152,8 +153,8 @@ module _ (member : ℕ → Bool) (i : ℕ) (cs : List Circle) where
       union-inside (pow2 85) member (length cs) (λ j. pointBox (circle cs j .center))
       (λ j h m.
       let a = carried j (rw same h) m in
-      let x : Inside (pow2 85) (circle cs j .center .x) = record { fin = a .x .fin; within = a .x .within } in
-      let y : Inside (pow2 85) (circle cs j .center .y) = record { fin = a .y .fin; within = a .y .within } in
+      let x : Bounded (pow2 85) (circle cs j .center .x) = record { fin = a .x .fin; within = a .x .within } in
+      let y : Bounded (pow2 85) (circle cs j .center .y) = record { fin = a .y .fin; within = a .y .within } in
       record { x-min = x; x-max = x; y-min = y; y-max = y })
       k (rw (← same) l) t in
       let mx = middle-inside (box .«x_min») (box .«x_max») (ends .x-min) (ends .x-max) in

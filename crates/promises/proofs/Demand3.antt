@@ -1,5 +1,5 @@
 -- Demand 3, whole: of an accepted layout whose numbers are f64, the gap, the distance, the reach and the chain, at 2^-16.
-use mathlib.Core.Path.{_≡_, refl, sym, _∙_, subst}
+use mathlib.Core.Path.{_≡_, sym, _∙_, subst}
 use mathlib.Core.Logic.{inr}
 use mathlib.Core.List.{List}
 use Prim.Native.Nat.{ℕ, _+_, _≤_, _<_}
@@ -8,10 +8,8 @@ use lib.ListN.{length, getD}
 use lib.Ieee.{Float, binary64, fits}
 use Rattle.rounding.specs.Scale.{pow2}
 use Rattle.shapes.specs.declared.geometry.shapes.circle.Circle.{Circle}
-use Rattle.shapes.specs.Records.{pointAt}
-use Rattle.scope.specs.Numbers.{_+ᶠ_, golden}
+use Rattle.scope.specs.Numbers.{golden}
 use Rattle.scope.specs.Limits.{circleCap, radiusOk, factorOk}
-use Rattle.scope.specs.Refusals.{layoutRefusal}
 use Rattle.scope.specs.Runs.{filled}
 use Rattle.scope.specs.Links.{Region, regions, circle}
 use Rattle.scope.specs.Groups.{Clusters, clusters}
@@ -20,9 +18,9 @@ use Rattle.scope.specs.Offset.{offset}
 use Rattle.scope.specs.Gauge.{gauged}
 use Rattle.scope.specs.Padding.{boxes, padding, packClusters}
 use Rattle.scope.specs.Centring.{centredLayout}
-use Rattle.scope.specs.Layout.{Layout, arranged, layout}
+use Rattle.scope.specs.Layout.{Layout, arranged}
 use Rattle.scope.specs.Promises.{Chain, Promises}
-use Rattle.promises.specs.Demand3.{bound, gapBound, AreDoubles, Demand3, Apart}
+use Rattle.promises.specs.Demand3.{bound, gapBound, Demand3, Apart}
 use Rattle.promises.proofs.Runs.{getD-filled-any}
 use Rattle.promises.proofs.Numbering.{Numbering}
 use Rattle.promises.proofs.Clusters.{clusters-numbering, same-number-iff-chain, same-filled-number-iff-chain}

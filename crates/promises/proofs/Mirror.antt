@@ -1,10 +1,10 @@
 -- The mirrors of the gauge as steps of an axis: x becomes 2m - x, where 2m is one number for the cluster, so the mirrored axis is off by one rounding more.
-use mathlib.Core.Path.{_≡_, refl, ap, _∙_}
+use mathlib.Core.Path.{_≡_, ap, _∙_}
 use mathlib.Core.Bool.{Bool, true, false, not, cond}
 use Prim.Native.Nat.{ℕ, _+_, _*_, _^_, _≤_, _<_}
 use native.Mathlib.Omega.{arith}
 use lib.Dec.{lit≤}
-use lib.Ieee.{Float, binary64, fits}
+use lib.Ieee.{Float, binary64}
 use Rattle.algebra.specs.Integer.{Z, _⊖_, _⊗_, nat, Within}
 use Rattle.rounding.specs.Value.{mag, negative, signed, Fin}
 use Rattle.rounding.specs.Scale.{pow2}
@@ -18,21 +18,10 @@ use Rattle.scope.specs.Gauge.{mirrorX, mirrorY}
 use Rattle.scope.specs.Promises.{units}
 use Rattle.promises.proofs.Magnitude.{mag-le}
 use Rattle.promises.proofs.Axis.{Axis, loosen, mirror}
+use Rattle.promises.proofs.Bounded.{two-finite, two-sign, two-size}
 use Rattle.promises.proofs.Carried.{Motion, Carried}
 
 -- ---- 2m is exact
-pub two-fin : Fin binary64 two
-unfolding Fin fits
-two-fin = tt
-
-pub two-sign : negative two ≡ false
-unfolding negative
-two-sign = refl
-
-pub two-size : mag binary64 two ≡ 2 * 2 ^ 1074
-unfolding mag
-two-size = refl
-
 no-overflow : 2 * pow2 85 < 2 ^ 2098
 unfolding pow2
 no-overflow = lit≤ tt
@@ -42,7 +31,7 @@ twice-below a b c h l = omega arith
 
 module _ (m : Float) (p : Fin binary64 m) (w : Within (units m) (pow2 85)) where
   doubled-exactly : Fin binary64 (two *ᶠ m) × (units (two *ᶠ m) ≡ signed (negative m) (2 * mag binary64 m))
-  doubled-exactly = twice binary64 two m two-fin p two-sign two-size (twice-below (mag binary64 m) (pow2 85) (2 ^ 2098) (mag-le m (pow2 85) w) no-overflow)
+  doubled-exactly = twice binary64 two m two-finite p two-sign two-size (twice-below (mag binary64 m) (pow2 85) (2 ^ 2098) (mag-le m (pow2 85) w) no-overflow)
 
   doubled-within : Within (units (two *ᶠ m)) (pow2 86)
   doubled-within = rw (doubled-exactly .1) (signed-within (negative m) (2 * mag binary64 m) (pow2 86) (omega (arith, mag-le m (pow2 85) w, pow2-scale 85 1)))

@@ -1,25 +1,20 @@
 -- What document 01's ranges say of a number in units: an accepted coordinate is finite and within 2^20, an accepted radius is finite, above 0, at most 2^20 and kept by the lift.
 use mathlib.Core.Path.{_≡_}
-use mathlib.Core.Bool.{true, false}
+use mathlib.Core.Bool.{false}
 use Prim.Native.Nat.{_≤_, _<_}
 use native.Mathlib.Omega.{arith}
 use lib.Dec.{T, lit≤}
 use lib.IntN.{pos}
-use lib.Ieee.{Float, nan, inf, fin, binary64, neg, lt, eq, le, fits}
-use lib.Ieee.Scale.{finite}
-use Rattle.algebra.specs.Integer.{Z, nat, opp, Within, _≼_}
+use lib.Ieee.{Float, fin, binary64, neg, fits}
+use Rattle.algebra.specs.Integer.{Z, nat, opp, Within}
 use Rattle.rounding.specs.Value.{mag, negative, val, Fin}
 use Rattle.rounding.specs.Scale.{pow2}
-use Rattle.rounding.proofs.Value.{fin-both, val-mag}
+use Rattle.rounding.proofs.Value.{val-mag}
 use Rattle.rounding.proofs.Double.{pow2-le}
-use Rattle.rounding.proofs.Order.{le-is}
 use Rattle.shapes.specs.declared.geometry.shapes.circle.Circle.{Circle}
-use Rattle.shapes.specs.Limits.{smallestRadius, largestRadius}
 use Rattle.shapes.specs.Lift.{lift}
-use Rattle.shapes.proofs.Lift.{lift-keeps-accepted}
 use Rattle.scope.specs.Limits.{within, coordinateOk, radiusOk}
 use Rattle.scope.specs.Promises.{units}
-use Rattle.promises.proofs.Cases.{and-iff, is-true}
 use Rattle.promises.proofs.InRange.{Between, within-between, radius-between, radius-lifted}
 use Rattle.promises.proofs.Magnitude.{above-zero-sign}
 use Rattle.promises.proofs.Carried.{Placed, centreBound}

@@ -26,7 +26,8 @@ use Rattle.scope.specs.Padding.{padding}
 use Rattle.scope.specs.Promises.{units}
 use Rattle.promises.proofs.Cases.{is-true}
 use Rattle.promises.proofs.NeverPast.{rounded-not-above, sum-not-above}
-use Rattle.promises.proofs.Bounded.{Bounded, Upto, bounded, nought-upto, mag-at-most, within-mag}
+use Rattle.promises.proofs.Bounded.{Bounded, Upto, bounded, nought-upto, within-mag}
+use Rattle.promises.proofs.Magnitude.{mag-le}
 
 -- ---- a sum of k numbers, each at most 2^(a - 60), is at most k times that: it is a number of the format, so no rounding goes past it
 module _ (i : ℕ) (t : T (leb i 1029)) (a : ℕ) (f : ℕ → Float) (k : ℕ) (room : k * pow2 a ≤ pow2 (54 + i)) (few : k < 2 ^ 53) (each : (j : ℕ) → j < k → Upto (pow2 a) (f j)) where
@@ -43,7 +44,7 @@ module _ (i : ℕ) (t : T (leb i 1029)) (a : ℕ) (f : ℕ → Float) (k : ℕ) 
       let e = each n l in
       let r = add64 i t x (f n) (h .fin) (e .fin) (in-range (units x) (units (f n)) n (pow2 a) (pow2 (54 + i)) (h .within) (e .within) (le-trans (mul-le-mul-right (pow2 a) l) room)) in
       let s = add-sign binary64 x (f n) (h .fin) (e .fin) (h .sign) (e .sign) in
-      let sizes = sum-size (mag binary64 x) (mag binary64 (f n)) n (pow2 a) (mag-at-most x (n * pow2 a) (h .within)) (mag-at-most (f n) (pow2 a) (e .within)) in
+      let sizes = sum-size (mag binary64 x) (mag binary64 (f n)) n (pow2 a) (mag-le x (n * pow2 a) (h .within)) (mag-le (f n) (pow2 a) (e .within)) in
       let m = sum-not-above binary64 x (f n) (h .fin) (e .fin) (h .sign) (e .sign) (suc n * pow2 a) (multiple-held (suc n) l) (r .fin) sizes in
       record { fin = r .fin; sign = s; within = within-mag (add binary64 x (f n)) (suc n * pow2 a) s m }
     where
@@ -125,7 +126,7 @@ module _ (s n : ℕ) (t : T (leb (6 + (s + s) + 2 * n) 1029)) (rects : List Rect
   small c l = le→leb c 1029 (let h = leb→le (6 + (s + s) + 2 * n) 1029 t in omega arith)
 
   root-total-upto : Upto (pow2 (60 + (s + n))) (root binary64 total)
-  root-total-upto = root-upto (s + n) (small (6 + (s + n)) (omega arith)) total (total-upto .fin) (total-upto .sign) (le-trans (mag-at-most total (length rects * pow2 (60 + (s + s))) (total-upto .within)) room)
+  root-total-upto = root-upto (s + n) (small (6 + (s + n)) (omega arith)) total (total-upto .fin) (total-upto .sign) (le-trans (mag-le total (length rects * pow2 (60 + (s + s))) (total-upto .within)) room)
     where
       exponent : (s n : ℕ) → 60 + (s + s) + 2 * n ≡ s + n + (60 + (s + n))
       exponent s n = omega arith

@@ -8,7 +8,7 @@ use native.Mathlib.Nat.{le-antisymm, le-trans, le-of-eq, le-of-lt, lt-of-lt-of-l
 use native.Mathlib.Omega.{arith}
 use lib.Dec.{T}
 use lib.Pow.{pow-pos, pow-mono, pow-add, shl-lt}
-use lib.Ieee.{Float, Format, prec, emax, low, size, round}
+use lib.Ieee.{Float, Format, prec, low, size, round}
 use lib.Ieee.Digits.{size-lt, size-le, size-reaches, back}
 use lib.Ieee.Fits.{two, kept-lt}
 use lib.Ieee.Scale.{finite}

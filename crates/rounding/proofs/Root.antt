@@ -2,20 +2,20 @@
 -- The root of A units is the root of A * 2 ^ low, in units. Zero is its own nearest root, so one equation serves all.
 use mathlib.Core.Path.{_≡_, refl, sym, ap, _∙_, subst}
 use mathlib.Core.Logic.{inl, inr}
-use mathlib.Core.Bool.{Bool, true, false, true≢false, _&&_}
-use Prim.Native.Nat.{ℕ, zero, suc, _+_, _-_, _*_, _%_, _^_, _≤_, _<_}
-use native.Mathlib.Nat.{mul-le-mul-right, mul-lt-mul-of-pos-right, mul-pos, lt-of-mul-lt-mul-right, le-trans, le-of-eq, le-of-lt, zero-mul}
+use mathlib.Core.Bool.{Bool, true, false, true≢false}
+use Prim.Native.Nat.{ℕ, zero, suc, _+_, _-_, _*_, _^_, _≤_, _<_}
+use native.Mathlib.Nat.{mul-le-mul-right, mul-pos, le-trans, le-of-eq, le-of-lt, zero-mul}
 use native.Mathlib.Omega.{arith}
 use lib.IntN.{ℤ}
-use lib.Dec.{T, ltb, eqb, leb, ltb→lt}
-use lib.Pow.{pow-pos, pow-mono, pow-add}
-use lib.Ieee.{Float, nan, inf, fin, Format, prec, emax, low, up, down, fits}
-use lib.Ieee.Fits.{two, reach, and-r}
+use lib.Dec.{T}
+use lib.Pow.{pow-mono, pow-add}
+use lib.Ieee.{Float, nan, inf, fin, Format, prec, emax, low}
+use lib.Ieee.Fits.{two, reach}
 use lib.Ieee.Scale.{finite}
 use Rattle.algebra.proofs.Size.{either}
 use Rattle.rounding.specs.Root.{nearestRoot, root}
 use Rattle.rounding.specs.Value.{mag, negative, Fin}
-use Rattle.rounding.proofs.Value.{fin-finite, value-of, mag-zero, mag-below}
+use Rattle.rounding.proofs.Value.{fin-finite, mag-zero, mag-below}
 use Rattle.rounding.proofs.Unique.{val-unique}
 use Rattle.rounding.proofs.NearestRoot.{squareOfRoot}
 use Rattle.rounding.proofs.RootError.{nearest-root-near, nearest-root-le, le-nearest-root}

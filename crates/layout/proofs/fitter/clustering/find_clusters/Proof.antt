@@ -1,6 +1,6 @@
 -- `find_clusters` meets its contract: a walk of its code by hand. The run is lent on to `load`, and what that returns is handed to `find_loaded_clusters`.
 -- Of the two it knows the contracts alone.
-use mathlib.Core.Path.{_≡_, refl, sym, _∙_, ap, subst}
+use mathlib.Core.Path.{_≡_, refl, _∙_, ap, subst}
 use Prim.Native.Nat.{ℕ}
 use mathlib.Core.List.{List, [], _∷_}
 use lib.ListN.{length}
@@ -36,7 +36,6 @@ use denote.Triple.Walked.{says, Stays, stay-none-slice, walkOf, Walks, ends-at, 
 use denote.Exit.{yes}
 use Rattle.shapes.specs.declared.geometry.shapes.circle.Circle.{Circle}
 use Rattle.shapes.proofs.geometry.shapes.circle.Circle as T
-use Rattle.scope.specs.Groups.{plainGrouping}
 use Rattle.layout.specs.Answers.{grouped, firstGrouping}
 use Rattle.layout.specs.Lent.{loaded}
 use Rattle.layout.specs.declared.lent.Loaded.{Loaded}
