@@ -1,6 +1,6 @@
 // Circles that a caller lends as a run, copied into an array.
 ghost use mathlib.Core.Path.{_≡_};
-ghost use Prim.Native.Nat.{_<_, _≤_, min};
+ghost use Prim.Native.Nat.{_<_, min};
 ghost use Rattle.layout.specs.Limits.{maxCircles};
 ghost use Rattle.layout.specs.Lent.{loaded, unloaded, withCircle};
 use crate::limits::MAX_CIRCLES;
@@ -13,6 +13,7 @@ pub struct Loaded {
     pub n: usize,
 }
 
+// Circles past the room are left out; the length tells that there are some.
 pub fn load(circles: &[Circle]) -> Loaded
     ensures { λ r. ⌜ r ≡ loaded (now (circles .entry)) ⌝ }
 {

@@ -37,6 +37,7 @@ pub struct Clusters {
 type Table = [[u8; MAX_CIRCLES]; MAX_CIRCLES];
 
 // Circles of one region belong together, unless its area is not finite or at most the tolerance. Any tolerance will do, a NaN too.
+// Refused: too many circles (1), lists of unequal length (13), too many regions (2), masks that do not rise (5).
 pub fn find_clusters_from_exclusive_regions(
     n: usize,
     masks: &[u64],
@@ -53,7 +54,8 @@ pub fn find_clusters_from_exclusive_regions(
     numbered(n, closed(n, linked_by_regions(n, masks, areas, tolerance)))
 }
 
-// Circles belong together if their edges cross or one lies inside the other. Of the circles only the first n are looked at.
+// Circles belong together if their edges cross or one lies inside the other. Only the first n are looked at.
+// Refused: too many circles (1), a centre (3) or a radius (4) out of range.
 pub fn find_clusters_by_value(circles: [Circle; MAX_CIRCLES], n: usize) -> Clusters
     ensures { λ r. ⌜ grouped r ≡ firstGrouping n circles ⌝ }
 {
@@ -64,7 +66,7 @@ pub fn find_clusters_by_value(circles: [Circle; MAX_CIRCLES], n: usize) -> Clust
     numbered(n, closed(n, linked_by_circles(circles, n)))
 }
 
-// The same of a lent run. More circles than there is room for are refused.
+// The same of a lent run of circles, all of them.
 pub fn find_clusters(circles: &[Circle]) -> Clusters
     ensures { λ r. ⌜ grouped r ≡ plainGrouping (now (circles .entry)) ⌝ }
 {
@@ -178,7 +180,7 @@ fn linked_by_regions(n: usize, masks: &[u64], areas: &[f64], tolerance: f64) -> 
     m
 }
 
-// Rows before i have been done, so what they say of i and j need not be worked out again.
+// Whether two circles overlap does not depend on their order, so row i takes what the rows before it have found.
 fn linked_by_circles(circles: [Circle; MAX_CIRCLES], n: usize) -> Table
     requires { ⌜ n ≤ maxCircles ⌝ }
     ensures { λ r. ⌜ Shows n r (linkedByCircles circles) ⌝ }
