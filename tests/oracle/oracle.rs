@@ -348,6 +348,120 @@ fn boxes_record(random: &mut Random, record: &mut Record) {
     record.bounds(Rectangle::new(Point::new(f[4], f[5]), f[6], f[7]).bounds());
 }
 
+fn columns_record(random: &mut Random, record: &mut Record) {
+    let k = random.below(70) as usize;
+    record.byte(k);
+    record.byte(if k > 64 { 1 } else { 0 });
+    // the source works this out inside the packing
+    let columns = ((k as f64).sqrt() * 1.618f64.sqrt()).ceil() as usize;
+    record.byte(if k > 64 { 0 } else { columns });
+}
+
+impl Random {
+    fn side(&mut self, wild: u64) -> f64 {
+        if wild > 0 && self.below(wild) == 0 {
+            return self.pick(&[-1.0, f64::NAN, f64::INFINITY, above(8388608.0), 1e300, -5e-324]);
+        }
+        match self.below(6) {
+            0 | 1 => self.below(6) as f64,
+            2 => self.below(64) as f64 / 8.0,
+            3 => self.unit() * 10.0,
+            4 => self.unit() * 8388608.0,
+            _ => self.pick(&[0.0, -0.0, 8388608.0, 1.0, 5e-324]),
+        }
+    }
+}
+
+fn bad_side(x: f64) -> bool {
+    !(0.0 <= x && x <= 8388608.0)
+}
+
+fn pack_record(random: &mut Random, record: &mut Record) {
+    let n = random.pick(&[0u64, 1, 2, 2, 3, 3, 4, 5, 6, 8, 13, 30, 63, 64, 65, 70]);
+    let wild = random.pick(&[0, 0, 0, 30, 300]);
+    let padding = match random.below(8) {
+        0 => random.pick(&[0.0, -0.0, 67108864.0, 5e-324]),
+        1 if wild > 0 => random.pick(&[above(67108864.0), -1.0, f64::NAN, f64::INFINITY]),
+        2 => random.unit() * 67108864.0,
+        _ => random.unit() * 3.0,
+    };
+    let rects: Vec<[f64; 4]> = (0..n).map(|_| [random.any(), random.any(), random.side(wild), random.side(wild)]).collect();
+    record.byte(n as usize);
+    record.float(padding);
+    for r in &rects {
+        for x in r {
+            record.float(*x);
+        }
+    }
+    let refusal = if n > 64 {
+        1
+    } else if rects.iter().any(|r| bad_side(r[2]) || bad_side(r[3])) {
+        7
+    } else if !(0.0 <= padding && padding <= 67108864.0) {
+        8
+    } else {
+        0
+    };
+    record.byte(refusal);
+    if refusal == 0 {
+        let given: Vec<Rectangle> = rects.iter().map(|r| Rectangle::new(Point::new(r[0], r[1]), r[2], r[3])).collect();
+        for r in skyline_pack(&given, padding) {
+            for x in [r.center().x(), r.center().y(), r.width(), r.height()] {
+                record.result(x);
+            }
+        }
+    }
+}
+
+fn container_record(random: &mut Random, record: &mut Record) {
+    let circles: Vec<[f64; 3]> = some_circles(random);
+    let wild = random.pick(&[0, 0, 20]);
+    let tight = random.below(2) == 0;
+    let spread = circles.iter().fold(0.0f64, |m, c| m.keep_max(c[0].abs() + c[2]).keep_max(c[1].abs() + c[2]));
+    let mut container = [random.coordinate(wild), random.coordinate(wild), random.side(wild), random.side(wild)];
+    if random.below(3) == 0 {
+        container[0] = random.pick(&[0.0, 1e-12, above(1e-12), -1e-13, 5e-324]);
+        container[1] = random.pick(&[0.0, -1e-12, 1e-13, 2e-12]);
+    }
+    if tight && spread <= 4194304.0 {
+        container[2] = 2.0 * spread;
+        container[3] = 2.0 * spread;
+    }
+    record.byte(circles.len());
+    for x in container {
+        record.float(x);
+    }
+    for c in &circles {
+        for x in c {
+            record.float(*x);
+        }
+    }
+    let refusal = match circles_refusal(&circles) {
+        1 => 1,
+        3 => 3,
+        _ if bad_point([container[0], container[1]]) => 3,
+        4 => 4,
+        _ if bad_side(container[2]) || bad_side(container[3]) => 7,
+        _ => 0,
+    };
+    record.byte(refusal);
+    let mut rectangle = Rectangle::new(Point::new(container[0], container[1]), container[2], container[3]);
+    let mut shapes: Vec<Circle> = circles.iter().map(|c| circle(*c)).collect();
+    if refusal == 0 {
+        normalize_layout_with_container(&mut shapes, &mut rectangle);
+    }
+    for x in [rectangle.center().x(), rectangle.center().y(), rectangle.width(), rectangle.height()] {
+        record.result(x);
+    }
+    if circles.len() <= 64 {
+        for c in &shapes {
+            for x in [c.center().x(), c.center().y(), c.radius()] {
+                record.result(x);
+            }
+        }
+    }
+}
+
 fn main() {
     let words: Vec<u64> = std::env::args().skip(1).map(|w| w.parse().expect("oracle KIND COUNT SEED")).collect();
     let (kind, count, seed) = (words[0], words[1], words[2]);
@@ -363,6 +477,9 @@ fn main() {
             4 => circles_record(&mut random, &mut record),
             5 => areas_record(&mut random, &mut record),
             6 => boxes_record(&mut random, &mut record),
+            7 => columns_record(&mut random, &mut record),
+            8 => pack_record(&mut random, &mut record),
+            9 => container_record(&mut random, &mut record),
             _ => panic!("no such kind"),
         }
         record.write(kind as u8, &mut out);
