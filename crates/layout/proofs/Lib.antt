@@ -9,3 +9,8 @@ pub mod AreaClusters
 pub mod Checking
 pub mod PlainClusters
 pub mod Loading
+pub mod Columns
+pub mod Arrays
+pub mod Grid
+pub mod Boxes
+pub mod Packing

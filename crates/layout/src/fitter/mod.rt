@@ -1,1 +1,3 @@
 pub mod clustering;
+mod lent_boxes;
+pub mod packing;
