@@ -3,20 +3,21 @@
 mod boxes;
 mod circles;
 mod groups;
+mod places;
 mod read;
 
 use libc::STDIN_FILENO;
 use libc::STDOUT_FILENO;
 ghost use Prim.Native.Nat.{_≤_, _<_};
 
-const KINDS: usize = 6;
+const KINDS: usize = 8;
 
 // More records than any list has.
 const BUDGET: u64 = 100000000;
 
 struct Tally {
-    seen: [u64; 7],
-    agreed: [u64; 7],
+    seen: [u64; 9],
+    agreed: [u64; 9],
 }
 
 // What one record came to: the end, or its kind, plus 100 where it agrees.
@@ -32,6 +33,8 @@ fn main() {
     line(b"clusters of circles ", tally.agreed[4], tally.seen[4]);
     line(b"clusters by areas ", tally.agreed[5], tally.seen[5]);
     line(b"boxes and lift ", tally.agreed[6], tally.seen[6]);
+    line(b"columns ", tally.agreed[7], tally.seen[7]);
+    line(b"packing ", tally.agreed[8], tally.seen[8]);
     line(b"malformed ", tally.agreed[0], tally.seen[0]);
 }
 
@@ -45,8 +48,8 @@ fn line(name: &[u8], agreed: u64, seen: u64) {
 
 // A record of no known kind, or one that is cut, counts as one of kind 0.
 fn all() -> Tally {
-    let mut seen = [0u64; 7];
-    let mut agreed = [0u64; 7];
+    let mut seen = [0u64; 9];
+    let mut agreed = [0u64; 9];
     let mut turn: u64 = 0;
     while turn < BUDGET {
         let outcome = next();
@@ -54,7 +57,7 @@ fn all() -> Tally {
             return Tally { seen, agreed };
         }
         let kind = outcome % AGREES;
-        if kind < 7 {
+        if kind < 9 {
             seen[kind] = more(seen[kind]);
             if outcome >= AGREES {
                 agreed[kind] = more(agreed[kind]);
@@ -128,6 +131,8 @@ fn agrees(kind: usize, body: &[u8]) -> bool {
         4 => groups::circles_agree(body),
         5 => groups::areas_agree(body),
         6 => boxes::boxes_agree(body),
+        7 => places::columns_agree(body),
+        8 => places::pack_agrees(body),
         _ => false,
     }
 }

@@ -2,6 +2,7 @@
 use shapes::geometry::primitives::bounds::Bounds;
 use shapes::geometry::primitives::point::Point;
 use shapes::geometry::shapes::circle::Circle;
+use shapes::geometry::shapes::rectangle::Rectangle;
 
 pub fn byte(body: &[u8], at: usize) -> u8 {
     if at < body.len() { body[at] } else { 0 }
@@ -60,6 +61,35 @@ pub fn is_bounds(body: &[u8], at: usize, b: Bounds) -> bool {
             && is_result(body, at + 8, b.x_max)
             && is_result(body, at + 16, b.y_min)
             && is_result(body, at + 24, b.y_max)
+    } else {
+        false
+    }
+}
+
+pub fn rectangle(body: &[u8], at: usize) -> Rectangle {
+    if at < 65536 {
+        let center = point(body, at);
+        Rectangle {
+            center,
+            width: float(body, at + 16),
+            height: float(body, at + 24),
+        }
+    } else {
+        let center = Point { x: 0.0, y: 0.0 };
+        Rectangle {
+            center,
+            width: 0.0,
+            height: 0.0,
+        }
+    }
+}
+
+pub fn is_rectangle(body: &[u8], at: usize, r: Rectangle) -> bool {
+    if at < 131072 {
+        is_result(body, at, r.center.x)
+            && is_result(body, at + 8, r.center.y)
+            && is_result(body, at + 16, r.width)
+            && is_result(body, at + 24, r.height)
     } else {
         false
     }

@@ -1,0 +1,76 @@
+// Column counts and packing.
+use crate::read;
+use layout::fitter::packing;
+use layout::fitter::packing::ColumnCount;
+use layout::fitter::packing::Packed;
+use shapes::geometry::primitives::point::Point;
+use shapes::geometry::shapes::rectangle::Rectangle;
+ghost use Prim.Native.Nat.{_≤_};
+
+// How many boxes, the refusal, the columns.
+pub fn columns_agree(body: &[u8]) -> bool {
+    if body.len() != 3 {
+        return false;
+    }
+    match packing::columns(read::byte(body, 0) as usize) {
+        ColumnCount::Of(columns) => {
+            read::byte(body, 1) == 0 && read::byte(body, 2) as usize == columns
+        }
+        ColumnCount::Refused(k) => read::byte(body, 1) == k && read::byte(body, 2) == 0,
+    }
+}
+
+// How many boxes, the padding, the boxes; the refusal, and where there is none the boxes placed.
+pub fn pack_agrees(body: &[u8]) -> bool {
+    let n = read::byte(body, 0) as usize;
+    if body.len() < 10 + 32 * n {
+        return false;
+    }
+    let answer =
+        packing::skyline_pack_by_value(rectangles(body, n), n, read::float(body, 1));
+    if read::byte(body, 9 + 32 * n) != answer.refusal {
+        return false;
+    }
+    if answer.refusal != 0 {
+        return body.len() == 10 + 32 * n;
+    }
+    if n > 64 {
+        return false;
+    }
+    body.len() == 10 + 64 * n && are_rectangles(body, 10 + 32 * n, n, answer)
+}
+
+fn rectangles(body: &[u8], n: usize) -> [Rectangle; 64] {
+    let center = Point { x: 0.0, y: 0.0 };
+    let none = Rectangle {
+        center,
+        width: 0.0,
+        height: 0.0,
+    };
+    let mut all = [none; 64];
+    let mut i: usize = 0;
+    while i < 64 {
+        if i < n {
+            all[i] = read::rectangle(body, 9 + 32 * i);
+        }
+        i += 1;
+    }
+    all
+}
+
+fn are_rectangles(body: &[u8], at: usize, n: usize, answer: Packed) -> bool
+    requires { ⌜ n ≤ 64 ⌝ }
+{
+    if at > 65536 {
+        return false;
+    }
+    let all = answer.rectangles;
+    let mut i: usize = 0;
+    while i < n {
+        if !read::is_rectangle(body, at + 32 * i, all[i]) {
+            return false;
+        }
+        i += 1;
+    }
+    true
+}
