@@ -14,3 +14,6 @@ pub mod Arrays
 pub mod Grid
 pub mod Boxes
 pub mod Packing
+pub mod InPlace
+pub mod BoxOf
+pub mod InContainer

@@ -79,7 +79,7 @@ many-refused-run : (ys : List Circle) → tooMany (length ys) ≡ true → plain
 unfolding plainGrouping grouping frontToBack
 many-refused-run ys h = rw (circles-reads ys .runs, h)
 
-few-whole : (ys : List Circle) → tooMany (length ys) ≡ false → take (length ys) (loaded ys .circles) ≡ ys
+pub few-whole : (ys : List Circle) → tooMany (length ys) ≡ false → take (length ys) (loaded ys .circles) ≡ ys
 unfolding filled circleCap
 few-whole ys h =
     rw (take-all maxCircles ys (few (length ys) h)) (take-at ys (replicate (maxCircles - length ys) blank) (length ys) refl)

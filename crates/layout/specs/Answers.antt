@@ -11,11 +11,13 @@ use Rattle.scope.specs.Refusals.{Answer, refused, given, tooMany}
 use Rattle.scope.specs.Links.{Region}
 use Rattle.scope.specs.Groups.{Grouping, plainClusters, grouping, plainGrouping}
 use Rattle.scope.specs.Promises.{Chain}
+use Rattle.scope.specs.Container.{Contained}
 use Rattle.layout.specs.declared.geometry.point.Measured.{Measured}
 use Rattle.layout.specs.declared.geometry.point.Measured.the-variants as length
 use Rattle.layout.specs.declared.geometry.circle.Decided.{Decided}
 use Rattle.layout.specs.declared.geometry.circle.Decided.the-variants as test
 use Rattle.layout.specs.declared.fitter.clustering.Clusters.{Clusters}
+use Rattle.layout.specs.declared.fitter.normalize.InContainer.{InContainer}
 
 abbrev pub measured : Measured → Answer Float
 measured (length.Of x) = given x
@@ -27,6 +29,9 @@ decided (test.Refused k) = refused k
 
 abbrev pub grouped : Clusters → Grouping
 grouped r = record { refusal = r .refusal; count = r .count; numbers = r .numbers }
+
+abbrev pub inContainer : InContainer → Contained
+inContainer r = record { refusal = r .refusal; container = r .container; circles = r .circles }
 
 -- two circles have one number exactly if they are the same or a chain of regions joins them
 abbrev pub NumbersByChains : ℕ → Float → List Region → List ℕ → Type 0

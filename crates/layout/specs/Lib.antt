@@ -4,3 +4,4 @@ pub mod Table
 pub mod Lent
 pub mod Packing
 pub mod LentBoxes
+pub mod First

@@ -1,8 +1,9 @@
-// Circles that a caller lends as a run, copied into an array.
+// Circles that a caller lends as a run, copied into an array and back.
 ghost use mathlib.Core.Path.{_≡_};
 ghost use Prim.Native.Nat.{_<_, min};
 ghost use Rattle.layout.specs.Limits.{maxCircles};
-ghost use Rattle.layout.specs.Lent.{loaded, unloaded, withCircle};
+ghost use Rattle.scope.specs.Links.{circle};
+ghost use Rattle.layout.specs.Lent.{loaded, stored, unloaded, withCircle};
 use crate::limits::MAX_CIRCLES;
 use shapes::geometry::primitives::point::Point;
 use shapes::geometry::shapes::circle::Circle;
@@ -25,6 +26,18 @@ pub fn load(circles: &[Circle]) -> Loaded
         i = i + 1;
     }
     l
+}
+
+// Writes the circles over those of the run, as many as there was room for.
+pub fn store(circles: &mut [Circle], l: Loaded)
+    ensures { λ _. ⌜ now (circles .exit) ≡ stored (l .circles) (now (circles .entry)) ⌝ }
+{
+    let end = room(circles.len());
+    let mut i: usize = 0;
+    while i < end {
+        circles[i] = circle_at(l, i);
+        i = i + 1;
+    }
 }
 
 fn unloaded(n: usize) -> Loaded
@@ -54,4 +67,11 @@ fn with_circle(l: Loaded, i: usize, c: Circle) -> Loaded
     let mut m = l;
     m.circles[i] = c;
     m
+}
+
+fn circle_at(l: Loaded, i: usize) -> Circle
+    requires { ⌜ i < maxCircles ⌝ }
+    ensures { λ r. ⌜ r ≡ circle (l .circles) i ⌝ }
+{
+    l.circles[i]
 }

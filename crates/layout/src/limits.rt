@@ -1,9 +1,10 @@
 // How much a call takes, and the ranges of its numbers. The ends of a range are inside it, and a NaN is in none.
 ghost use mathlib.Core.Path.{_≡_};
-ghost use Rattle.scope.specs.Limits.{coordinateOk};
-ghost use Rattle.scope.specs.Refusals.{tooMany, tooManyRegions, badPoint, badCentre, badRadius};
+ghost use Rattle.scope.specs.Limits.{coordinateOk, sideOk};
+ghost use Rattle.scope.specs.Refusals.{tooMany, tooManyRegions, badPoint, badCentre, badRadius, badSide, badPadding};
 use shapes::geometry::primitives::point::Point;
 use shapes::geometry::shapes::circle::Circle;
+use shapes::geometry::shapes::rectangle::Rectangle;
 
 pub const MAX_CIRCLES: usize = 64;
 
@@ -11,6 +12,12 @@ pub const MAX_REGIONS: usize = 2048;
 
 // 2^20, the largest size of a coordinate.
 const MAX_COORDINATE: f64 = 1048576.0;
+
+// 2^23, the largest side.
+const MAX_SIDE: f64 = 8388608.0;
+
+// 2^26, the largest padding.
+const MAX_PADDING: f64 = 67108864.0;
 
 // Refusal 1.
 pub fn too_many(n: usize) -> bool
@@ -50,4 +57,24 @@ fn coordinate_in_range(x: f64) -> bool
     ensures { λ r. ⌜ r ≡ coordinateOk x ⌝ }
 {
     -MAX_COORDINATE <= x && x <= MAX_COORDINATE
+}
+
+// Refusal 7.
+pub fn bad_side(r: Rectangle) -> bool
+    ensures { λ q. ⌜ q ≡ badSide r ⌝ }
+{
+    !(side_in_range(r.width) && side_in_range(r.height))
+}
+
+fn side_in_range(x: f64) -> bool
+    ensures { λ r. ⌜ r ≡ sideOk x ⌝ }
+{
+    0.0 <= x && x <= MAX_SIDE
+}
+
+// Refusal 8.
+pub fn bad_padding(x: f64) -> bool
+    ensures { λ r. ⌜ r ≡ badPadding x ⌝ }
+{
+    !(0.0 <= x && x <= MAX_PADDING)
 }

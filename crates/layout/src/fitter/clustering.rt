@@ -102,7 +102,7 @@ fn regions_refusal(n: usize, masks: &[u64], areas: &[f64]) -> u8
 }
 
 // A bad centre anywhere goes before a bad radius.
-fn circles_refusal(circles: [Circle; MAX_CIRCLES], n: usize) -> u8
+pub(crate) fn circles_refusal(circles: [Circle; MAX_CIRCLES], n: usize) -> u8
     ensures { λ r. ⌜ r ≡ cond (tooMany n) 1 (circlesRefusal (take n circles)) ⌝ }
 {
     if too_many(n) {

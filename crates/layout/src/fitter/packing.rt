@@ -7,8 +7,8 @@ ghost use lib.ListN.{getD, take};
 ghost use lib.Ieee.{nan, eq};
 ghost use Rattle.scope.specs.Runs.{tab, filled};
 ghost use Rattle.scope.specs.Numbers.{_<ᶠ_, golden};
-ghost use Rattle.scope.specs.Limits.{circleCap, sideOk};
-ghost use Rattle.scope.specs.Refusals.{tooMany, badSide, badPadding, packRefusal};
+ghost use Rattle.scope.specs.Limits.{circleCap};
+ghost use Rattle.scope.specs.Refusals.{tooMany, packRefusal};
 ghost use Rattle.scope.specs.Packing.{columns, columnsAnswer, place, breadth, start, placed, noRectangle, packed, skylinePack};
 ghost use Rattle.promises.proofs.AfterRefusal.{refusedPacking};
 ghost use Rattle.layout.specs.Limits.{maxCircles};
@@ -17,6 +17,8 @@ use crate::fitter::lent_boxes::Loaded;
 use crate::fitter::lent_boxes::load;
 use crate::fitter::lent_boxes::no_rectangle;
 use crate::limits::MAX_CIRCLES;
+use crate::limits::bad_padding;
+use crate::limits::bad_side;
 use crate::limits::too_many;
 use shapes::extremes::maximum;
 use shapes::geometry::primitives::point::Point;
@@ -33,12 +35,6 @@ pub struct Packed {
     pub refusal: u8,
     pub rectangles: [Rectangle; MAX_CIRCLES],
 }
-
-// 2^23, the longest side.
-const MAX_SIDE: f64 = 8388608.0;
-
-// 2^26, the largest padding.
-const MAX_PADDING: f64 = 67108864.0;
 
 // No boxes have 0 columns, and more than 64 give 1.
 pub fn columns(k: usize) -> ColumnCount
@@ -99,26 +95,6 @@ fn pack_refusal(rectangles: [Rectangle; MAX_CIRCLES], n: usize, padding: f64) ->
         return 8;
     }
     0
-}
-
-// Refusal 7.
-pub(crate) fn bad_side(r: Rectangle) -> bool
-    ensures { λ b. ⌜ b ≡ badSide r ⌝ }
-{
-    !(side_in_range(r.width) && side_in_range(r.height))
-}
-
-fn side_in_range(x: f64) -> bool
-    ensures { λ r. ⌜ r ≡ sideOk x ⌝ }
-{
-    0.0 <= x && x <= MAX_SIDE
-}
-
-// Refusal 8.
-fn bad_padding(x: f64) -> bool
-    ensures { λ r. ⌜ r ≡ badPadding x ⌝ }
-{
-    !(0.0 <= x && x <= MAX_PADDING)
 }
 
 fn refused(number: u8) -> Packed

@@ -2,8 +2,8 @@
 use mathlib.Core.Logic.{⊎-elim}
 use borrow.Author.Needs.{needs}
 use Rattle.scope.specs.Refusals.{badSide}
-use Rattle.layout.proofs.fitter.packing.bad_side.Statement.{statement}
-use Rattle.layout.proofs.fitter.packing.bad_side.Tie as tie
+use Rattle.layout.proofs.limits.bad_side.Statement.{statement}
+use Rattle.layout.proofs.limits.bad_side.Tie as tie
 
 side-in-range-requires : tie.Need-side-in-range-requires
 side-in-range-requires c κs = search needs

@@ -3,8 +3,8 @@ use mathlib.Core.Logic.{⊎-elim}
 use lib.Ieee.{ofBits}
 use Rattle.scope.specs.Limits.{paddingOk, within}
 use Rattle.scope.specs.Refusals.{badPadding}
-use Rattle.layout.proofs.fitter.packing.bad_padding.Statement.{statement}
-use Rattle.layout.proofs.fitter.packing.bad_padding.Tie as tie
+use Rattle.layout.proofs.limits.bad_padding.Statement.{statement}
+use Rattle.layout.proofs.limits.bad_padding.Tie as tie
 
 returns : tie.Need-returns
 unfolding badPadding paddingOk within ofBits

@@ -1,8 +1,8 @@
 -- `side_in_range` meets its contract: the constant's pattern is 2^23.
 use lib.Ieee.{ofBits}
 use Rattle.scope.specs.Limits.{sideOk, within}
-use Rattle.layout.proofs.fitter.packing.side_in_range.Statement.{statement}
-use Rattle.layout.proofs.fitter.packing.side_in_range.Tie as tie
+use Rattle.layout.proofs.limits.side_in_range.Statement.{statement}
+use Rattle.layout.proofs.limits.side_in_range.Tie as tie
 
 returns : tie.Need-returns
 unfolding sideOk within ofBits
