@@ -15,11 +15,12 @@ pub fn circles_agree(body: &[u8]) -> bool {
     grouped(
         body,
         1 + 24 * n,
-        clustering::find_clusters_by_value(circles(body, n), n),
+        clustering::find_clusters_by_value(circles(body, 1, n), n),
     )
 }
 
-fn circles(body: &[u8], n: usize) -> [Circle; 64] {
+// The first of n circles from a place on.
+pub fn circles(body: &[u8], at: usize, n: usize) -> [Circle; 64] {
     let none = Circle {
         center: Point { x: 0.0, y: 0.0 },
         radius: 0.0,
@@ -28,11 +29,20 @@ fn circles(body: &[u8], n: usize) -> [Circle; 64] {
     let mut i: usize = 0;
     while i < 64 {
         if i < n {
-            all[i] = read::circle(body, 1 + 24 * i);
+            all[i] = circle_at(body, at, i);
         }
         i += 1;
     }
     all
+}
+
+fn circle_at(body: &[u8], at: usize, i: usize) -> Circle {
+    if at < 65536 {
+        if i < 64 {
+            return read::circle(body, at + 24 * i);
+        }
+    }
+    read::circle(body, 65536)
 }
 
 // How many circles, masks and areas; the tolerance, the masks, the areas, the answer.

@@ -10,14 +10,14 @@ use libc::STDIN_FILENO;
 use libc::STDOUT_FILENO;
 ghost use Prim.Native.Nat.{_≤_, _<_};
 
-const KINDS: usize = 8;
+const KINDS: usize = 9;
 
 // More records than any list has.
 const BUDGET: u64 = 100000000;
 
 struct Tally {
-    seen: [u64; 9],
-    agreed: [u64; 9],
+    seen: [u64; 10],
+    agreed: [u64; 10],
 }
 
 // What one record came to: the end, or its kind, plus 100 where it agrees.
@@ -35,6 +35,7 @@ fn main() {
     line(b"boxes and lift ", tally.agreed[6], tally.seen[6]);
     line(b"columns ", tally.agreed[7], tally.seen[7]);
     line(b"packing ", tally.agreed[8], tally.seen[8]);
+    line(b"container ", tally.agreed[9], tally.seen[9]);
     line(b"malformed ", tally.agreed[0], tally.seen[0]);
 }
 
@@ -48,8 +49,8 @@ fn line(name: &[u8], agreed: u64, seen: u64) {
 
 // A record of no known kind, or one that is cut, counts as one of kind 0.
 fn all() -> Tally {
-    let mut seen = [0u64; 9];
-    let mut agreed = [0u64; 9];
+    let mut seen = [0u64; 10];
+    let mut agreed = [0u64; 10];
     let mut turn: u64 = 0;
     while turn < BUDGET {
         let outcome = next();
@@ -57,7 +58,7 @@ fn all() -> Tally {
             return Tally { seen, agreed };
         }
         let kind = outcome % AGREES;
-        if kind < 9 {
+        if kind < 10 {
             seen[kind] = more(seen[kind]);
             if outcome >= AGREES {
                 agreed[kind] = more(agreed[kind]);
@@ -133,6 +134,7 @@ fn agrees(kind: usize, body: &[u8]) -> bool {
         6 => boxes::boxes_agree(body),
         7 => places::columns_agree(body),
         8 => places::pack_agrees(body),
+        9 => places::container_agrees(body),
         _ => false,
     }
 }

@@ -1,9 +1,13 @@
-// Column counts and packing.
+// Column counts, packing and the container call.
+use crate::groups;
 use crate::read;
+use layout::fitter::normalize;
+use layout::fitter::normalize::InContainer;
 use layout::fitter::packing;
 use layout::fitter::packing::ColumnCount;
 use layout::fitter::packing::Packed;
 use shapes::geometry::primitives::point::Point;
+use shapes::geometry::shapes::circle::Circle;
 use shapes::geometry::shapes::rectangle::Rectangle;
 ghost use Prim.Native.Nat.{_≤_};
 
@@ -26,8 +30,7 @@ pub fn pack_agrees(body: &[u8]) -> bool {
     if body.len() < 10 + 32 * n {
         return false;
     }
-    let answer =
-        packing::skyline_pack_by_value(rectangles(body, n), n, read::float(body, 1));
+    let answer = packing::skyline_pack_by_value(rectangles(body, n), n, read::float(body, 1));
     if read::byte(body, 9 + 32 * n) != answer.refusal {
         return false;
     }
@@ -68,6 +71,49 @@ fn are_rectangles(body: &[u8], at: usize, n: usize, answer: Packed) -> bool
     let mut i: usize = 0;
     while i < n {
         if !read::is_rectangle(body, at + 32 * i, all[i]) {
+            return false;
+        }
+        i += 1;
+    }
+    true
+}
+
+// How many circles, the container, the circles; the refusal, the container and, where they fit a layout, the circles.
+pub fn container_agrees(body: &[u8]) -> bool {
+    let n = read::byte(body, 0) as usize;
+    let at = 33 + 24 * n;
+    if body.len() < at + 33 {
+        return false;
+    }
+    let container = read::rectangle(body, 1);
+    let answer = normalize::normalize_layout_with_container_by_value(
+        groups::circles(body, 33, n),
+        n,
+        container,
+    );
+    if read::byte(body, at) != answer.refusal {
+        return false;
+    }
+    let placed = answer.container;
+    if !read::is_rectangle(body, at + 1, placed) {
+        return false;
+    }
+    if n > 64 {
+        return body.len() == at + 33;
+    }
+    body.len() == at + 33 + 24 * n && are_circles(body, at + 33, n, answer)
+}
+
+fn are_circles(body: &[u8], at: usize, n: usize, answer: InContainer) -> bool
+    requires { ⌜ n ≤ 64 ⌝ }
+{
+    if at > 65536 {
+        return false;
+    }
+    let all = answer.circles;
+    let mut i: usize = 0;
+    while i < n {
+        if !read::is_circle(body, at + 24 * i, all[i]) {
             return false;
         }
         i += 1;

@@ -94,3 +94,13 @@ pub fn is_rectangle(body: &[u8], at: usize, r: Rectangle) -> bool {
         false
     }
 }
+
+pub fn is_circle(body: &[u8], at: usize, c: Circle) -> bool {
+    if at < 131072 {
+        is_result(body, at, c.center.x)
+            && is_result(body, at + 8, c.center.y)
+            && is_result(body, at + 16, c.radius)
+    } else {
+        false
+    }
+}

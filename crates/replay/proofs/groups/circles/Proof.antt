@@ -1,32 +1,23 @@
-use Prim.Native.Nat.{ℕ, suc, _≤_, _<_, _-_, _+_}
+use Prim.Native.Nat.{_≤_, _-_}
 use native.Mathlib.Omega.{arith}
 use borrow.Author.Needs.{needs}
-use mathlib.Core.Path.{_≡_, refl, sym, ap, _∙_}
-use mathlib.Core.Bool.{Bool, true, false, not, _&&_, _||_, cond}
-use lib.ListN.{length, getD, set}
 use Rattle.replay.proofs.groups.circles.Statement.{statement}
 use Rattle.replay.proofs.groups.circles.Tie as tie
 use Rattle.replay.proofs.groups.circles.Reads as reads
 use Rattle.replay.proofs.groups.circles.Lts as lts
-use Rattle.replay.proofs.read.circle.Reads as circle-reads
+use Rattle.replay.proofs.groups.circle_at.Reads as circle-at-reads
 
 abbrev Inv-loop : tie.InvT-loop
-Inv-loop body n all₀ i₀ all i = i ≤ 64
+Inv-loop body at n all₀ i₀ all i = i ≤ 64
 
 abbrev μ-loop : tie.MeasureT-loop
-μ-loop body n all₀ i₀ all i = 64 - i
+μ-loop body at n all₀ i₀ all i = 64 - i
 
 loop-holds : tie.Need-loop-holds Inv-loop μ-loop
 loop-holds c = omega arith
 
-mul-circle : tie.Need-mul-circle Inv-loop μ-loop
-mul-circle c = omega arith
-
-add-circle : tie.Need-add-circle Inv-loop μ-loop
-add-circle c = omega arith
-
-circle-requires : tie.Need-circle-requires Inv-loop μ-loop
-circle-requires c κs = search needs
+circle-at-requires : tie.Need-circle-at-requires Inv-loop μ-loop
+circle-at-requires c κs = search needs
 
 mul-all : tie.Need-mul-all Inv-loop μ-loop
 mul-all c = omega arith
@@ -53,9 +44,7 @@ circles-spec =
     Inv-loop
     μ-loop
     loop-holds
-    mul-circle
-    add-circle
-    circle-requires
+    circle-at-requires
     mul-all
     array-set-from-all
     add-i
