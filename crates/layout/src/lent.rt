@@ -33,7 +33,7 @@ pub fn store(circles: &mut [Circle], l: Loaded)
     ensures { λ _. ⌜ now (circles .exit) ≡ stored (l .circles) (now (circles .entry)) ⌝ }
 {
     let end = room(circles.len());
-    let mut i: usize = 0;
+    let mut i = 0usize;
     while i < end {
         circles[i] = circle_at(l, i);
         i = i + 1;
