@@ -1,8 +1,8 @@
 -- The container call on the first n circles of an array: which number comes back, and what the answer is.
-use Prim.Native.Nat.{ℕ, zero, suc, _-_, _≤_, _<_}
+use Prim.Native.Nat.{ℕ, zero, suc, _-_, _≤_}
 use native.Mathlib.Nat.{min-eq-left, min-eq-right}
 use native.Mathlib.Omega.{arith}
-use mathlib.Core.Path.{_≡_, refl, sym, ap, _∙_}
+use mathlib.Core.Path.{_≡_, refl, sym, _∙_}
 use mathlib.Core.Logic.{_≢_}
 use mathlib.Core.Bool.{Bool, true, false, _||_, cond}
 use mathlib.Core.List.{List, _++_, append-nil}
@@ -28,12 +28,13 @@ use Rattle.scope.specs.Container.{Contained, reachesPast, centredIn, settled, c
 use Rattle.promises.proofs.Runs.{length-tab}
 use Rattle.promises.proofs.EntryPoints.{circles-reads, container-reads}
 use Rattle.promises.proofs.AfterRefusal.{container-answers}
-use Rattle.layout.specs.Limits.{maxCircles}
-use Rattle.layout.specs.Lent.{blank, loaded, stored}
-use Rattle.layout.specs.First.{onFirst, withRest, firstContained, placedOf, placedLoaded, off, near}
-use Rattle.layout.proofs.Checking.{few}
-use Rattle.layout.proofs.InPlace.{on-first-twice}
-use Rattle.layout.proofs.PlainClusters.{firstRefusal, few-whole}
+use Rattle.intake.specs.Limits.{maxCircles}
+use Rattle.intake.specs.Lent.{blank, loaded, stored}
+use Rattle.intake.specs.First.{onFirst}
+use Rattle.layout.specs.First.{withRest, firstContained, placedOf, placedLoaded, off, near}
+use Rattle.intake.proofs.Checking.{few}
+use Rattle.intake.proofs.InPlace.{on-first-twice, either-length}
+use Rattle.grouping.proofs.PlainClusters.{firstRefusal, few-whole}
 
 -- the number of the circles' own checks, and that of all, from the causes
 abbrev ofCircles : Bool → Bool → Bool → ℕ
@@ -190,10 +191,6 @@ module _ (n : ℕ) (cs : List Circle) (container : Rectangle) (inside : n ≤ le
   settled-there h = rw h
 
 -- ---- a lent run: what is loaded of it is answered for as the run is, and goes back to its place
-
-either-length : (b : Bool) (n : ℕ) (xs zs : List Circle) → length xs ≡ n → length zs ≡ n → length (cond b xs zs) ≡ n
-either-length true n xs zs e f = e
-either-length false n xs zs e f = f
 
 translated-length : (dx dy : Float) (cs : List Circle) → length (allTranslated dx dy cs) ≡ length cs
 unfolding allTranslated

@@ -1,4 +1,4 @@
--- The first n elements of an array changed, the rest as it was.
+-- The container call on the first n circles of an array, the rest as it was.
 use Prim.Native.Nat.{ℕ}
 use mathlib.Core.Bool.{Bool, _&&_, _||_, cond}
 use mathlib.Core.List.{List, _++_}
@@ -9,12 +9,9 @@ use Rattle.shapes.specs.declared.geometry.shapes.rectangle.Rectangle.{Rectangle
 use Rattle.scope.specs.Numbers.{_<ᶠ_, e-12, abs}
 use Rattle.scope.specs.Refusals.{tooMany}
 use Rattle.scope.specs.Container.{Contained, contained}
-use Rattle.layout.specs.declared.lent.Loaded.{Loaded}
-use Rattle.layout.specs.declared.fitter.normalize.Placed.{Placed}
-use Rattle.layout.specs.declared.fitter.normalize.PlacedCircles.{PlacedCircles}
-
-abbrev pub onFirst : {A : Type 0} → ℕ → (List A → List A) → List A → List A
-onFirst n f l = f (take n l) ++ drop n l
+use Rattle.intake.specs.declared.lent.Loaded.{Loaded}
+use Rattle.layout.specs.declared.normalize.Placed.{Placed}
+use Rattle.layout.specs.declared.normalize.PlacedCircles.{PlacedCircles}
 
 -- an answer for the first n circles, the rest behind them
 abbrev pub withRest : ℕ → List Circle → Contained → Contained

@@ -1,8 +1,8 @@
 // Clusterings: the refusal's number, the count, 64 cluster numbers.
 ghost use Prim.Native.Nat.{_≤_};
 use crate::read;
-use layout::fitter::clustering;
-use layout::fitter::clustering::Clusters;
+use grouping::clustering;
+use grouping::clustering::Clusters;
 use shapes::geometry::primitives::point::Point;
 use shapes::geometry::shapes::circle::Circle;
 

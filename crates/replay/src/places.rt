@@ -1,11 +1,11 @@
 // Column counts, packing and the container call.
 use crate::groups;
 use crate::read;
-use layout::fitter::normalize;
-use layout::fitter::normalize::InContainer;
-use layout::fitter::packing;
-use layout::fitter::packing::ColumnCount;
-use layout::fitter::packing::Packed;
+use grid::packing;
+use grid::packing::ColumnCount;
+use grid::packing::Packed;
+use layout::normalize;
+use layout::normalize::InContainer;
 use shapes::geometry::primitives::point::Point;
 use shapes::geometry::shapes::circle::Circle;
 use shapes::geometry::shapes::rectangle::Rectangle;

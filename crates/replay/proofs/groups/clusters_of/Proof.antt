@@ -9,7 +9,7 @@ use Rattle.replay.proofs.groups.clusters_of.Statement.{statement}
 use Rattle.replay.proofs.groups.clusters_of.Tie as tie
 use Rattle.replay.proofs.groups.clusters_of.Reads as reads
 use Rattle.replay.proofs.groups.clusters_of.Lts as lts
-use Rattle.layout.proofs.fitter.clustering.find_clusters_from_exclusive_regions.Reads as find-clusters-from-exclusive-regions-reads
+use Rattle.grouping.proofs.clustering.find_clusters_from_exclusive_regions.Reads as find-clusters-from-exclusive-regions-reads
 
 -- src/groups.rt:57:72
 slice-aggregate-find-clusters-from-exclusive-regions :

@@ -1,0 +1,4 @@
+// Distances and tests of points and circles.
+pub mod circle;
+pub mod extent;
+pub mod point;

@@ -1,0 +1,55 @@
+// The distance of two points.
+ghost use mathlib.Core.Path.{_≡_};
+ghost use lib.Ieee.{binary64};
+ghost use Rattle.rounding.specs.Root.{root};
+ghost use Rattle.scope.specs.Distance.{distance, distanceAnswer};
+ghost use Rattle.scope.specs.Refusals.{pointsRefusal};
+ghost use Rattle.geometry.specs.Answers.{measured};
+use intake::limits::bad_point;
+use root::answers::Root;
+use shapes::geometry::primitives::point::Point;
+
+// A length, or a refusal's number.
+pub enum Measured {
+    Of(f64),
+    Refused(u8),
+}
+
+// A coordinate that is not finite or out of range gives 3.
+pub fn distance(p: Point, q: Point) -> Measured
+    ensures { λ r. ⌜ measured r ≡ distanceAnswer p q ⌝ }
+{
+    let refusal = points_refusal(p, q);
+    if refusal != 0 {
+        return Measured::Refused(refusal);
+    }
+    Measured::Of(raw_distance(p, q))
+}
+
+fn points_refusal(p: Point, q: Point) -> u8
+    ensures { λ r. ⌜ r ≡ pointsRefusal p q ⌝ }
+{
+    if bad_point(p) || bad_point(q) {
+        return 3;
+    }
+    0
+}
+
+// The root of the sum of the squared differences, each step rounded. Nothing is asked of the points: the offset step measures beyond the range.
+pub(crate) fn raw_distance(p: Point, q: Point) -> f64
+    ensures { λ r. ⌜ r ≡ distance p q ⌝ }
+{
+    let x = p.x - q.x;
+    let y = p.y - q.y;
+    root_or_nan(x * x + y * y)
+}
+
+// The root, and NaN where there is none.
+pub fn root_or_nan(x: f64) -> f64
+    ensures { λ r. ⌜ r ≡ root binary64 x ⌝ }
+{
+    match root::root(x) {
+        Root::Of(r) => r,
+        Root::Refused(_) => 0.0 / 0.0,
+    }
+}

@@ -1,0 +1,5 @@
+pub mod Columns
+pub mod Arrays
+pub mod Grid
+pub mod Boxes
+pub mod Packings

@@ -1,0 +1,2 @@
+// Boxes in a grid.
+pub mod packing;

@@ -1,0 +1,2 @@
+// Which circles belong together.
+pub mod clustering;

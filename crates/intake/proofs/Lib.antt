@@ -1,0 +1,6 @@
+pub mod Order
+pub mod Beyond
+pub mod Rising
+pub mod Checking
+pub mod Loading
+pub mod InPlace

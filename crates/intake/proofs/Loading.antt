@@ -1,0 +1,56 @@
+-- A run written over an array, element by element: what stands there after i turns, and at the end.
+use Prim.Native.Nat.{ℕ, zero, suc, _-_, _<_, _≤_, min}
+use native.Mathlib.Nat.{min-eq-left, min-eq-right}
+use native.Mathlib.Decide.{decLe}
+use native.Mathlib.Omega.{arith}
+use mathlib.Core.Path.{_≡_, refl, ap, _∙_}
+use mathlib.Core.List.{List, [], _∷_, _++_}
+use lib.ListN.{length, getD, set, take, drop, replicate}
+use lib.Seq.{take-all, length-take-le}
+use Rattle.scope.specs.Runs.{filled}
+
+module _ {A : Type 0} where
+  -- the first i of xs, and what ys has after them
+  abbrev pub over : ℕ → List A → List A → List A
+  over i xs ys = take i xs ++ drop i ys
+
+  pub over-next : (i : ℕ) (xs ys : List A) (d : A) → i < length xs → i < length ys → set (over i xs ys) i (getD xs i d) ≡ over (suc i) xs ys
+  over-next i [] ys d h g = absurd (omega arith)
+  over-next i (x ∷ xs) [] d h g = absurd (omega arith)
+  over-next zero (x ∷ xs) (y ∷ ys) d h g = refl
+  over-next (suc i) (x ∷ xs) (y ∷ ys) d h g = ap {B = List A} (λ l. x ∷ l) (over-next i xs ys d (omega arith) (omega arith))
+
+  drop-replicate : (n w : ℕ) (z : A) → n ≤ w → drop n (replicate w z) ≡ replicate (w - n) z
+  drop-replicate zero w z h = let e : w ≡ w - 0 = omega arith in ap (λ (k : ℕ). replicate k z) e
+  drop-replicate (suc n) zero z h = absurd (omega arith)
+  drop-replicate (suc n) (suc w) z h = let e : w - n ≡ suc w - suc n = omega arith in drop-replicate n w z (omega arith) ∙ ap (λ (k : ℕ). replicate k z) e
+
+  -- as many as there is room for, over an array of w blanks
+  pub over-all : (w : ℕ) (xs : List A) (z : A) → over (min (length xs) w) xs (replicate w z) ≡ filled w z (take w xs)
+  unfolding filled
+  over-all w xs z =
+      elim (decLe (length xs) w) [
+        | yes h ↦ rw (min-eq-left h, take-all (length xs) xs (omega arith), take-all w xs h, drop-replicate (length xs) w z h)
+        | no h ↦ let g : w ≤ length xs = omega arith in rw (min-eq-right g, length-take-le w xs g, drop-replicate w w z (omega arith))
+      ]
+
+  drop-all : (n : ℕ) (l : List A) → length l ≤ n → drop n l ≡ []
+  drop-all zero [] h = refl
+  drop-all (suc n) [] h = refl
+  drop-all zero (x ∷ l) h = absurd (omega arith)
+  drop-all (suc n) (x ∷ l) h = drop-all n l (omega arith)
+
+  -- a count cut at the array's length takes the same elements, and leaves the same
+  pub take-room : (n w : ℕ) (l : List A) → length l ≡ w → take (min n w) l ≡ take n l
+  take-room n w l e =
+      elim (decLe n w) [
+        | yes h ↦ rw (min-eq-left h)
+        | no h ↦ let g : w ≤ n = omega arith in rw (min-eq-right g, take-all w l (omega arith), take-all n l (omega arith))
+      ]
+
+  pub drop-room : (n w : ℕ) (l : List A) → length l ≡ w → drop (min n w) l ≡ drop n l
+  drop-room n w l e =
+      elim (decLe n w) [
+        | yes h ↦ rw (min-eq-left h)
+        | no h ↦ let g : w ≤ n = omega arith in rw (min-eq-right g, drop-all w l (omega arith), drop-all n l (omega arith))
+      ]

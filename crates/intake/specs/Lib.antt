@@ -1,0 +1,4 @@
+pub mod Limits
+pub mod Lent
+pub mod LentBoxes
+pub mod First

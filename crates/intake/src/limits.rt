@@ -1,0 +1,89 @@
+// How much a call takes, and the ranges of its numbers. The ends of a range are inside it, and a NaN is in none.
+ghost use mathlib.Core.Path.{_≡_};
+ghost use Prim.Native.Nat.{min};
+ghost use Rattle.scope.specs.Limits.{coordinateOk, sideOk};
+ghost use Rattle.scope.specs.Refusals.{tooMany, tooManyRegions, badPoint, badCentre, badRadius, badSide, badPadding};
+ghost use Rattle.intake.specs.Limits.{maxCircles};
+use shapes::geometry::primitives::point::Point;
+use shapes::geometry::shapes::circle::Circle;
+use shapes::geometry::shapes::rectangle::Rectangle;
+
+pub const MAX_CIRCLES: usize = 64;
+
+pub const MAX_REGIONS: usize = 2048;
+
+// 2^20, the largest size of a coordinate.
+const MAX_COORDINATE: f64 = 1048576.0;
+
+// 2^23, the largest side.
+const MAX_SIDE: f64 = 8388608.0;
+
+// 2^26, the largest padding.
+const MAX_PADDING: f64 = 67108864.0;
+
+// How many of n circles or boxes there is room for.
+pub fn room(n: usize) -> usize
+    ensures { λ r. ⌜ r ≡ min n maxCircles ⌝ }
+{
+    if n < MAX_CIRCLES { n } else { MAX_CIRCLES }
+}
+
+// Refusal 1.
+pub fn too_many(n: usize) -> bool
+    ensures { λ r. ⌜ r ≡ tooMany n ⌝ }
+{
+    n > MAX_CIRCLES
+}
+
+// Refusal 2.
+pub fn too_many_regions(n: usize) -> bool
+    ensures { λ r. ⌜ r ≡ tooManyRegions n ⌝ }
+{
+    n > MAX_REGIONS
+}
+
+// Refusal 3.
+pub fn bad_point(p: Point) -> bool
+    ensures { λ r. ⌜ r ≡ badPoint p ⌝ }
+{
+    !(coordinate_in_range(p.x) && coordinate_in_range(p.y))
+}
+
+pub fn bad_centre(c: Circle) -> bool
+    ensures { λ r. ⌜ r ≡ badCentre c ⌝ }
+{
+    bad_point(c.center)
+}
+
+// Refusal 4.
+pub fn bad_radius(c: Circle) -> bool
+    ensures { λ r. ⌜ r ≡ badRadius c ⌝ }
+{
+    !Circle::radius_in_range(c.radius)
+}
+
+fn coordinate_in_range(x: f64) -> bool
+    ensures { λ r. ⌜ r ≡ coordinateOk x ⌝ }
+{
+    -MAX_COORDINATE <= x && x <= MAX_COORDINATE
+}
+
+// Refusal 7.
+pub fn bad_side(r: Rectangle) -> bool
+    ensures { λ q. ⌜ q ≡ badSide r ⌝ }
+{
+    !(side_in_range(r.width) && side_in_range(r.height))
+}
+
+fn side_in_range(x: f64) -> bool
+    ensures { λ r. ⌜ r ≡ sideOk x ⌝ }
+{
+    0.0 <= x && x <= MAX_SIDE
+}
+
+// Refusal 8.
+pub fn bad_padding(x: f64) -> bool
+    ensures { λ r. ⌜ r ≡ badPadding x ⌝ }
+{
+    !(0.0 <= x && x <= MAX_PADDING)
+}

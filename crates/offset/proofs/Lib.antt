@@ -1,0 +1,5 @@
+pub mod MaskShifts
+pub mod RegionFolds
+pub mod ChildParents
+pub mod OffsetSearch
+pub mod OffsetMoves
