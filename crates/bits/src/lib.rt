@@ -62,7 +62,7 @@ fn half_at(bytes: &[u8], at: usize, k: usize) -> u64
 }
 
 // The k-th byte after a place, 0 past the end.
-fn byte_at(bytes: &[u8], at: usize, k: usize) -> u64
+pub fn byte_at(bytes: &[u8], at: usize, k: usize) -> u64
     ensures { λ r. ⌜ (r ≡ getD (drop at (now (bytes .entry))) k 0) × (r < 256) ⌝ }
 {
     if at < bytes.len() {

@@ -2,7 +2,7 @@
 ghost use mathlib.Core.Path.{_≡_};
 ghost use Prim.Native.Nat.{min};
 ghost use Rattle.scope.specs.Limits.{coordinateOk, sideOk};
-ghost use Rattle.scope.specs.Refusals.{tooMany, tooManyRegions, badPoint, badCentre, badRadius, badSide, badPadding};
+ghost use Rattle.scope.specs.Refusals.{tooMany, tooManyRegions, badPoint, badCentre, badRadius, badFactor, badSide, badPadding};
 ghost use Rattle.intake.specs.Limits.{maxCircles};
 use shapes::geometry::primitives::point::Point;
 use shapes::geometry::shapes::circle::Circle;
@@ -66,6 +66,13 @@ fn coordinate_in_range(x: f64) -> bool
     ensures { λ r. ⌜ r ≡ coordinateOk x ⌝ }
 {
     -MAX_COORDINATE <= x && x <= MAX_COORDINATE
+}
+
+// Refusal 6.
+pub fn bad_factor(x: f64) -> bool
+    ensures { λ r. ⌜ r ≡ badFactor x ⌝ }
+{
+    !(0.0 <= x && x <= 1.0)
 }
 
 // Refusal 7.

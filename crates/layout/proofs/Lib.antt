@@ -1,1 +1,6 @@
 pub mod InContainer
+pub mod PackedClusters
+pub mod LayoutNumber
+pub mod Arrangement
+pub mod WholeLayout
+pub mod Doubles

@@ -1,33 +1,67 @@
-// Layouts brought to a standard place: centred on the origin, or in a container that stands there.
+// Layouts brought to a standard place: children, clusters and all, centred on the origin, or in a container that stands there.
 ghost use mathlib.Core.Path.{_≡_};
 ghost use mathlib.Core.Bool.{cond};
+ghost use mathlib.Core.List.{List, []};
 ghost use Prim.Native.Nat.{_≤_};
-ghost use lib.ListN.{take};
-ghost use Rattle.scope.specs.Runs.{always};
-ghost use Rattle.scope.specs.Refusals.{tooMany, containerRefusal};
-ghost use Rattle.scope.specs.Padding.{boxAll};
+ghost use lib.ListN.{length, take};
+ghost use Rattle.scope.specs.Numbers.{golden};
+ghost use Rattle.scope.specs.Runs.{always, filled};
+ghost use Rattle.scope.specs.Limits.{circleCap};
+ghost use Rattle.scope.specs.Links.{regions};
+ghost use Rattle.scope.specs.Refusals.{tooMany, regionsRefusal, containerRefusal};
+ghost use Rattle.scope.specs.Packing.{noRectangle, rectangle};
+ghost use Rattle.scope.specs.Padding.{boxAll, asRectangle, boxes, padding, shift, shifted, packClusters};
 ghost use Rattle.scope.specs.Centring.{allTranslated, centredLayout};
+ghost use Rattle.scope.specs.Layout.{arranged, refusedLayout};
+ghost use Rattle.scope.specs.Promises.{Promises};
 ghost use Rattle.scope.specs.Container.{reachesPast, centredIn, settled, contained};
+ghost use Rattle.promises.specs.Demand3.{bound};
 ghost use Rattle.intake.specs.Limits.{maxCircles};
-ghost use Rattle.layout.specs.Answers.{inContainer};
 ghost use Rattle.intake.specs.First.{onFirst};
+ghost use Rattle.layout.specs.Answers.{inContainer, resultOf, laidOut};
+ghost use Rattle.layout.specs.FirstLayout.{layoutNumber, withOthers, firstLayout, firstOf};
 ghost use Rattle.layout.specs.First.{withRest, firstContained, placedOf, placedLoaded, off, near};
+use gauge::cluster_box;
+use gauge::gauged_clusters;
 use geometry::circle::absolute;
 use geometry::extent::middle;
 use geometry::extent::nothing;
 use geometry::extent::translated;
+use geometry::point::root_or_nan;
+use grid::packing::raw_pack;
+use grouping::clustering::find_clusters_from_exclusive_regions;
 use intake::lent::Loaded;
 use intake::lent::load;
 use intake::lent::store;
+use intake::lent_boxes::no_rectangle;
 use intake::limits::MAX_CIRCLES;
+use intake::limits::bad_factor;
 use intake::limits::bad_point;
 use intake::limits::bad_side;
 use intake::refusals::circles_refusal;
+use intake::refusals::regions_refusal;
+use offset::offset_contained_children;
+use offset::tolerance;
 use shapes::extremes::maximum;
 use shapes::geometry::primitives::bounds::Bounds;
 use shapes::geometry::primitives::point::Point;
 use shapes::geometry::shapes::circle::Circle;
 use shapes::geometry::shapes::rectangle::Rectangle;
+
+// Document 01's result: a refusal's number or 0, the clusters, the mask of the moved circles, and the padding. What is not used is 0.
+pub struct Result {
+    pub refusal: u8,
+    pub count: usize,
+    pub numbers: [u8; MAX_CIRCLES],
+    pub moved: u64,
+    pub padding: f64,
+}
+
+// The result, and the circles: as they were given where the call is refused.
+pub struct Layout {
+    pub result: Result,
+    pub circles: [Circle; MAX_CIRCLES],
+}
 
 // A refusal's number or 0, and the container and the circles: as they were given where the call is refused.
 pub struct InContainer {
@@ -45,6 +79,219 @@ pub struct Placed {
 struct PlacedCircles {
     answer: Placed,
     layout: Loaded,
+}
+
+// ---- the whole layout
+
+// Moves children off their parents' centres, turns and mirrors each cluster, packs the clusters and centres the whole.
+// Only the first n circles are looked at and moved.
+// Refused: too many circles (1), lists of unequal length (13), too many regions (2), a centre (3), a radius (4), masks that do not rise (5), the factor (6).
+pub fn normalize_layout_with_clusters_by_value(
+    circles: [Circle; MAX_CIRCLES],
+    n: usize,
+    factor: f64,
+    masks: &[u64],
+    areas: &[f64],
+) -> Layout
+    ensures answer { λ r. ⌜ laidOut r ≡ firstLayout n circles factor (now (masks .entry)) (now (areas .entry)) ⌝ }
+    ensures promises { λ r. ⌜ (r .result .refusal ≡ 0 → Promises bound (take n circles) (regions (now (masks .entry)) (now (areas .entry))) (resultOf (r .result)) (take n (r .circles))) ⌝ }
+{
+    let refusal = layout_refusal(circles, n, factor, masks, areas);
+    if refusal != 0 {
+        return Layout {
+            result: refused(refusal),
+            circles,
+        };
+    }
+    arranged(circles, n, factor, masks, areas)
+}
+
+fn refused(number: u8) -> Result
+    ensures { λ r. ⌜ resultOf r ≡ refusedLayout number [] .result ⌝ }
+{
+    Result {
+        refusal: number,
+        count: 0,
+        numbers: [0u8; MAX_CIRCLES],
+        moved: 0,
+        padding: 0.0,
+    }
+}
+
+fn layout_refusal(
+    circles: [Circle; MAX_CIRCLES],
+    n: usize,
+    factor: f64,
+    masks: &[u64],
+    areas: &[f64],
+) -> u8
+    ensures { λ r. ⌜ r ≡ layoutNumber n circles factor (now (masks .entry)) (now (areas .entry)) ⌝ }
+{
+    let of_regions = regions_refusal(n, masks, areas);
+    let of_circles = circles_refusal(circles, n);
+    let of_factor = bad_factor(factor);
+    first_refusal(of_regions, of_circles, of_factor)
+}
+
+// Masks that do not rise come after the circles, what else is wrong with the regions before them.
+fn first_refusal(of_regions: u8, of_circles: u8, of_factor: bool) -> u8
+    ensures { λ r. ⌜ r ≡ firstOf «of_regions» «of_circles» «of_factor» ⌝ }
+{
+    if of_regions == 1 {
+        return 1;
+    }
+    if of_regions == 13 {
+        return 13;
+    }
+    if of_regions == 2 {
+        return 2;
+    }
+    if of_circles != 0 {
+        return of_circles;
+    }
+    if of_regions != 0 {
+        return of_regions;
+    }
+    if of_factor {
+        return 6;
+    }
+    0
+}
+
+fn arranged(
+    circles: [Circle; MAX_CIRCLES],
+    n: usize,
+    factor: f64,
+    masks: &[u64],
+    areas: &[f64],
+) -> Layout
+    requires { ⌜ (n ≤ maxCircles) × (regionsRefusal n (now masks) (now areas) ≡ 0) × (length (now masks) ≡ length (now areas)) ⌝ }
+    ensures { λ r. ⌜ laidOut r ≡ withOthers n circles (arranged golden (take n circles) factor (regions (now (masks .entry)) (now (areas .entry)))) ⌝ }
+{
+    let step = offset_contained_children(circles, n, masks, areas);
+    let moved = step.mask;
+    let parted = step.circles;
+    let clusters = find_clusters_from_exclusive_regions(n, masks, areas, tolerance(areas));
+    let count = clusters.count;
+    let numbers = clusters.numbers;
+    let turned = gauged_clusters(parted, n, numbers, count);
+    let boxes = cluster_boxes(turned, n, numbers, count);
+    let padding = padding_of(boxes, count, factor);
+    let packed = pack_clusters(turned, n, numbers, boxes, count, padding);
+    let result = Result {
+        refusal: 0,
+        count,
+        numbers,
+        moved,
+        padding,
+    };
+    let centred = center_layout(packed, n);
+    Layout {
+        result,
+        circles: centred,
+    }
+}
+
+// ---- packing
+
+// A box for each cluster.
+fn cluster_boxes(
+    circles: [Circle; MAX_CIRCLES],
+    n: usize,
+    numbers: [u8; MAX_CIRCLES],
+    count: usize,
+) -> [Rectangle; MAX_CIRCLES]
+    requires { ⌜ count ≤ maxCircles ⌝ }
+    ensures { λ r. ⌜ r ≡ filled circleCap noRectangle (boxes count numbers (take n circles)) ⌝ }
+{
+    let mut boxes = [no_rectangle(); MAX_CIRCLES];
+    let mut a: usize = 0;
+    while a < count {
+        boxes[a] = as_rectangle(cluster_box(circles, n, numbers, a));
+        a += 1;
+    }
+    boxes
+}
+
+fn as_rectangle(b: Bounds) -> Rectangle
+    ensures { λ r. ⌜ r ≡ asRectangle b ⌝ }
+{
+    let center = Point::new(middle(b.x_min, b.x_max), middle(b.y_min, b.y_max));
+    Rectangle::new(center, b.width(), b.height())
+}
+
+// The factor of the side of a square as large as all boxes together. One cluster alone needs none.
+fn padding_of(boxes: [Rectangle; MAX_CIRCLES], count: usize, factor: f64) -> f64
+    requires { ⌜ count ≤ maxCircles ⌝ }
+    ensures { λ r. ⌜ r ≡ padding (take count boxes) factor ⌝ }
+{
+    if count < 2 {
+        return 0.0;
+    }
+    let mut sum = 0.0;
+    let mut a: usize = 0;
+    while a < count {
+        let b = boxes[a];
+        sum = sum + b.width * b.height;
+        a += 1;
+    }
+    root_or_nan(sum) * factor
+}
+
+// The clusters in the grid, each circle moved as its cluster's box is.
+fn pack_clusters(
+    circles: [Circle; MAX_CIRCLES],
+    n: usize,
+    numbers: [u8; MAX_CIRCLES],
+    boxes: [Rectangle; MAX_CIRCLES],
+    count: usize,
+    padding: f64,
+) -> [Circle; MAX_CIRCLES]
+    requires { ⌜ (n ≤ maxCircles) × (count ≤ maxCircles) ⌝ }
+    ensures { λ r. ⌜ ((rects : List Rectangle) → length rects ≡ count → boxes ≡ filled circleCap noRectangle rects → r ≡ onFirst n (packClusters golden numbers rects padding) circles) ⌝ }
+{
+    if count < 2 {
+        return circles;
+    }
+    let packed = raw_pack(boxes, count, padding);
+    all_shifted(circles, n, numbers, boxes, packed)
+}
+
+fn all_shifted(
+    circles: [Circle; MAX_CIRCLES],
+    n: usize,
+    numbers: [u8; MAX_CIRCLES],
+    old: [Rectangle; MAX_CIRCLES],
+    new: [Rectangle; MAX_CIRCLES],
+) -> [Circle; MAX_CIRCLES]
+    requires { ⌜ n ≤ maxCircles ⌝ }
+    ensures { λ r. ⌜ r ≡ onFirst n (shifted numbers old new) circles ⌝ }
+{
+    let mut moved = circles;
+    let mut i: usize = 0;
+    while i < n {
+        let a = numbers[i];
+        moved[i] = shift(rectangle_at(old, a), rectangle_at(new, a), moved[i]);
+        i += 1;
+    }
+    moved
+}
+
+fn rectangle_at(boxes: [Rectangle; MAX_CIRCLES], a: u8) -> Rectangle
+    ensures { λ r. ⌜ r ≡ rectangle boxes a ⌝ }
+{
+    let k = a as usize;
+    if k < MAX_CIRCLES {
+        return boxes[k];
+    }
+    no_rectangle()
+}
+
+// A circle moves as the centre of its cluster's box does.
+fn shift(old: Rectangle, new: Rectangle, c: Circle) -> Circle
+    ensures { λ r. ⌜ r ≡ shift old new c ⌝ }
+{
+    translated(c, new.center.x - old.center.x, new.center.y - old.center.y)
 }
 
 // ---- the container call

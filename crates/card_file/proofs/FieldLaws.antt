@@ -1,0 +1,36 @@
+-- What the checks of a field say of the bytes at its place, and what the answer of a refused call is.
+use Prim.Native.Nat.{ℕ, zero, suc, _+_, _*_, _≤_}
+use native.Mathlib.Omega.{arith}
+use mathlib.Core.Path.{_≡_, refl}
+use mathlib.Core.Bool.{false}
+use mathlib.Core.List.{List, [], _∷_}
+use lib.ListN.{length, getD, drop, length-drop}
+use borrow.Author.Tests.{ltb-false}
+use Rattle.scope.specs.Refusals.{refused, given, answer}
+use Rattle.scope.specs.CardFile.{littleEndian, tag, bodyLength, headLength, bodyCut, statedLength, fieldRefusal}
+use Rattle.promises.proofs.Cases.{is-false}
+use Rattle.promises.proofs.EntryPoints.{field-reads}
+
+pub stated-is : (l : List ℕ) → statedLength l ≡ getD l 1 0 + 256 * getD l 2 0
+unfolding statedLength littleEndian
+stated-is [] = refl
+stated-is (a ∷ []) = refl
+stated-is (a ∷ b ∷ []) = refl
+stated-is (a ∷ b ∷ c ∷ l) = omega arith
+
+-- a body that is not cut lies in the file
+pub body-inside : (l : List ℕ) (at : ℕ) → bodyCut (drop at l) ≡ false → at + headLength + bodyLength (tag (drop at l)) ≤ length l
+unfolding bodyCut
+body-inside l at h = omega (arith, ltb-false (length (drop at l)) (headLength + bodyLength (tag (drop at l))) h, length-drop at l)
+
+pub accepted-is-whole : (rest : List ℕ) → fieldRefusal rest ≡ 0 → bodyCut rest ≡ false
+accepted-is-whole rest e = is-false (bodyCut rest) (field-reads rest .accepted .0 e .1 .1 .1 .0)
+
+pub refused-answer : {A : Type 0} (k : ℕ) (a : A) → (k ≡ 0 → ⊥) → answer k a ≡ refused k
+unfolding answer
+refused-answer zero a h = absurd (h refl)
+refused-answer (suc k) a h = refl
+
+pub given-answer : {A : Type 0} (k : ℕ) (a : A) → k ≡ 0 → answer k a ≡ given a
+unfolding answer
+given-answer k a h = rw h

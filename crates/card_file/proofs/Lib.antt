@@ -1,0 +1,4 @@
+pub mod FieldLaws
+pub mod Filling
+pub mod Reading
+pub mod Values

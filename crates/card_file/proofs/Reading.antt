@@ -1,0 +1,172 @@
+-- Field after field: a field that is not refused adds a circle or a region, and reading goes on behind it.
+use Prim.Native.Nat.{ℕ, zero, suc, _+_, _<_, _≤_}
+use native.Mathlib.Omega.{arith}
+use mathlib.Core.Path.{_≡_, refl, ap, _∙_}
+use mathlib.Core.Logic.{⊎-elim}
+use mathlib.Core.Bool.{false, _&&_, _||_}
+use mathlib.Core.List.{List, [], _∷_}
+use lib.Dec.{eqb}
+use lib.ListN.{length, drop, set, replicate, length-drop, drop-of-length-le}
+use lib.Seq.{drop-drop}
+use lib.Ieee.{Float}
+use borrow.Author.Tests.{eq-eqb, ne-eqb}
+use Rattle.shapes.specs.declared.geometry.shapes.circle.Circle.{Circle}
+use Rattle.scope.specs.Numbers.{nought}
+use Rattle.scope.specs.Limits.{circleCap, regionCap}
+use Rattle.scope.specs.Refusals.{Answer, refused, given, tooMany, tooManyRegions}
+use Rattle.scope.specs.CardFile.{Card, tag, body, bodyLength, headLength, bodyCut, misplaced, word, floatOf, circleOf, withField, firstRefusal, nextRefusal, orRefused, fields, readFile}
+use Rattle.promises.proofs.Cases.{is-false, and-iff, or-iff, not-not-iff, eqb-iff, not-ltb-iff}
+use Rattle.promises.proofs.EntryPoints.{first-field-reads, next-field-reads}
+use Rattle.intake.specs.Lent.{blank}
+use Rattle.intake.specs.Limits.{maxCircles, maxRegions}
+use Rattle.card_file.specs.Answers.{listed, started}
+use Rattle.card_file.specs.Unused.{Uses}
+use Rattle.card_file.proofs.Filling.{none-used, one-more-used, used-next, used-length}
+
+behind : (k : ℕ) (card : Card) (l : List ℕ) → fields k card l ≡ fields 0 card (drop k l)
+unfolding fields
+behind zero card l = refl
+behind (suc k) card [] = refl
+behind (suc k) card (b ∷ bs) = behind k card bs
+
+pub next-field : (card : Card) (rest : List ℕ) → 0 < length rest
+    → fields 0 card rest ≡ orRefused (nextRefusal card rest) (fields 0 (withField card rest) (drop (headLength + bodyLength (tag rest)) rest))
+unfolding fields
+next-field card [] h = absurd (omega arith)
+next-field card (b ∷ bs) h = let long : headLength + bodyLength b ≡ suc (2 + bodyLength b) = omega arith in rw long (ap (orRefused (nextRefusal card (b ∷ bs))) (behind (2 + bodyLength b) (withField card (b ∷ bs)) bs))
+
+pub no-field : (card : Card) → fields 0 card [] ≡ given card
+unfolding fields
+no-field card = refl
+
+pub stops : {A : Type 0} (k : ℕ) (a : Answer A) → (k ≡ 0 → ⊥) → orRefused k a ≡ refused k
+unfolding orRefused
+stops zero a h = absurd (h refl)
+stops (suc k) a h = refl
+
+pub goes-on : {A : Type 0} (k : ℕ) (a : Answer A) → k ≡ 0 → orRefused k a ≡ a
+unfolding orRefused
+goes-on k a h = rw h
+
+-- ---- the first field
+
+pub first-is-whole : (file : List ℕ) → firstRefusal file ≡ 0 → bodyCut file ≡ false
+first-is-whole file e = is-false (bodyCut file) (first-field-reads file .accepted .0 e .1 .1 .1 .1 .0)
+
+pub after-factor : (file : List ℕ) → firstRefusal file ≡ 0 → readFile file ≡ fields 0 (started (floatOf (word (body file) 0))) (drop 11 file)
+unfolding readFile bodyLength
+after-factor file e = goes-on (firstRefusal file) _ e ∙ behind 11 _ file
+
+pub nothing-after : (file : List ℕ) → (firstRefusal file ≡ 0 → ⊥) → readFile file ≡ refused (firstRefusal file)
+unfolding readFile
+nothing-after file h = stops (firstRefusal file) _ h
+
+-- ---- what a field that is not refused is
+
+module _ (card : Card) (rest : List ℕ) (accepted : nextRefusal card rest ≡ 0) where
+  pub next-is-whole : bodyCut rest ≡ false
+  next-is-whole = is-false (bodyCut rest) (next-field-reads card rest .accepted .0 accepted .1 .1 .1 .1 .1 .0)
+
+  pub room-for-circle : tag rest ≡ 2 → length (card .circles) < maxCircles
+  unfolding tooMany circleCap
+  room-for-circle t =
+      let few = next-field-reads card rest .accepted .0 accepted .1 .1 .0 in
+      omega (arith, not-ltb-iff circleCap (suc (length (card .circles))) .0 (λ h. few (and-iff (eqb (tag rest) 2) (tooMany (suc (length (card .circles)))) .1 (eqb-iff (tag rest) 2 .1 t, h))))
+
+  pub is-region : (tag rest ≡ 2 → ⊥) → tag rest ≡ 3
+  unfolding misplaced
+  is-region t =
+      let t2 = eqb (tag rest) 2 && eqb (length (card .masks)) 0 in
+      ⊎-elim (λ h. absurd (t (eqb-iff (tag rest) 2 .0 (and-iff (eqb (tag rest) 2) (eqb (length (card .masks)) 0) .0 h .0)))) (λ h. eqb-iff (tag rest) 3 .0 h)
+      (or-iff t2 (eqb (tag rest) 3) .0 (not-not-iff (t2 || eqb (tag rest) 3) .0 (next-field-reads card rest .accepted .0 accepted .1 .0)))
+
+  pub room-for-region : tag rest ≡ 3 → length (card .masks) < maxRegions
+  unfolding tooManyRegions regionCap
+  room-for-region t =
+      let few = next-field-reads card rest .accepted .0 accepted .1 .1 .1 .0 in
+      omega (arith, not-ltb-iff regionCap (suc (length (card .masks))) .0 (λ h. few (and-iff (eqb (tag rest) 3) (tooManyRegions (suc (length (card .masks)))) .1 (eqb-iff (tag rest) 3 .1 t, h))))
+
+-- ---- what it adds
+
+module _ (factor : Float) (n : ℕ) (circles : List Circle) (m : ℕ) (masks patterns : List ℕ) (areas : List Float) (rest : List ℕ) where
+  pub circle-added : tag rest ≡ 2 → n < maxCircles → Uses maxCircles blank n circles
+      → withField (listed factor n circles m masks patterns areas) rest ≡ listed factor (n + 1) (set circles n (circleOf (body rest))) m masks patterns areas
+  unfolding withField
+  circle-added t h u = rw (eq-eqb (tag rest) 2 t, used-next (circleOf (body rest)) h u)
+
+  pub region-added : (tag rest ≡ 2 → ⊥) → m < maxRegions → Uses maxRegions 0 m masks → Uses maxRegions 0 m patterns → Uses maxRegions nought m areas
+      → withField (listed factor n circles m masks patterns areas) rest
+      ≡ listed factor n circles (m + 1) (set masks m (word (body rest) 0)) (set patterns m (word (body rest) 8)) (set areas m (floatOf (word (body rest) 8)))
+  unfolding withField
+  region-added t h um up ua = rw (ne-eqb (tag rest) 2 t, used-next (word (body rest) 0) h um, used-next (word (body rest) 8) h up, used-next (floatOf (word (body rest) 8)) h ua)
+
+-- ---- what has been read so far
+
+-- the arrays hold what stands before the place, and reading on from there gives what reading from the start gives
+pub record SoFar (file : List ℕ) (start : ℕ) (factor : Float) (n : ℕ) (circles : List Circle) (m : ℕ) (masks patterns : List ℕ) (areas : List Float) (at : ℕ) : Type 0 where
+  pub circles-used : Uses maxCircles blank n circles
+  pub masks-used : Uses maxRegions 0 m masks
+  pub patterns-used : Uses maxRegions 0 m patterns
+  pub areas-used : Uses maxRegions nought m areas
+  pub same : fields 0 (started factor) (drop start file) ≡ fields 0 (listed factor n circles m masks patterns areas) (drop at file)
+
+pub nothing-yet : (file : List ℕ) (start : ℕ) (factor : Float)
+    → SoFar file start factor 0 (replicate maxCircles blank) 0 (replicate maxRegions 0) (replicate maxRegions 0) (replicate maxRegions nought) start
+nothing-yet file start factor = record {
+  circles-used = none-used maxCircles blank;
+  masks-used = none-used maxRegions 0;
+  patterns-used = none-used maxRegions 0;
+  areas-used = none-used maxRegions nought;
+  same = refl;
+}
+
+module _ {file : List ℕ} {start : ℕ} {factor : Float} {n : ℕ} {circles : List Circle} {m : ℕ} {masks patterns : List ℕ} {areas : List Float} {at : ℕ}
+    (before : SoFar file start factor n circles m masks patterns areas at) where
+  pub all-read : length file ≤ at → fields 0 (started factor) (drop start file) ≡ given (listed factor n circles m masks patterns areas)
+  all-read h = before .same ∙ rw (drop-of-length-le file {i = at} h) (no-field _)
+
+  -- the check knows the card's counts alone
+  pub refusal-is : {k : ℕ} → ((card : Card) → length (card .circles) ≡ n → length (card .masks) ≡ m → k ≡ nextRefusal card (drop at file))
+      → k ≡ nextRefusal (listed factor n circles m masks patterns areas) (drop at file)
+  refusal-is e = e (listed factor n circles m masks patterns areas) (used-length (before .circles-used)) (used-length (before .masks-used))
+
+  module _ (accepted : nextRefusal (listed factor n circles m masks patterns areas) (drop at file) ≡ 0) where
+    pub circle-fits : tag (drop at file) ≡ 2 → n < maxCircles
+    circle-fits t = omega (arith, room-for-circle _ (drop at file) accepted t, used-length (before .circles-used))
+
+    pub region-fits : (tag (drop at file) ≡ 2 → ⊥) → m < maxRegions
+    region-fits t = omega (arith, room-for-region _ (drop at file) accepted (is-region _ (drop at file) accepted t), used-length (before .masks-used))
+
+  module _ (inside : at < length file) where
+    pub turn : fields 0 (started factor) (drop start file)
+        ≡ orRefused (nextRefusal (listed factor n circles m masks patterns areas) (drop at file))
+        (fields 0 (withField (listed factor n circles m masks patterns areas) (drop at file)) (drop (at + (headLength + bodyLength (tag (drop at file)))) file))
+    turn = before .same ∙ next-field _ (drop at file) (omega (arith, length-drop at file)) ∙ rw drop-drop
+
+    module _ (accepted : nextRefusal (listed factor n circles m masks patterns areas) (drop at file) ≡ 0) where
+      pub with-circle : tag (drop at file) ≡ 2
+          → SoFar file start factor (n + 1) (set circles n (circleOf (body (drop at file)))) m masks patterns areas (at + (headLength + bodyLength (tag (drop at file))))
+      with-circle t =
+          let room = circle-fits accepted t in
+          record {
+            circles-used = one-more-used _ room (before .circles-used);
+            masks-used = before .masks-used;
+            patterns-used = before .patterns-used;
+            areas-used = before .areas-used;
+            same = turn ∙ goes-on _ _ accepted ∙ rw (circle-added factor n circles m masks patterns areas (drop at file) t room (before .circles-used));
+          }
+
+      pub with-region : (tag (drop at file) ≡ 2 → ⊥)
+          → SoFar file start factor n circles (m + 1) (set masks m (word (body (drop at file)) 0)) (set patterns m (word (body (drop at file)) 8))
+          (set areas m (floatOf (word (body (drop at file)) 8))) (at + (headLength + bodyLength (tag (drop at file))))
+      with-region t =
+          let room = region-fits accepted t in
+          record {
+            circles-used = before .circles-used;
+            masks-used = one-more-used _ room (before .masks-used);
+            patterns-used = one-more-used _ room (before .patterns-used);
+            areas-used = one-more-used _ room (before .areas-used);
+            same =
+                turn ∙ goes-on _ _ accepted
+                ∙ rw (region-added factor n circles m masks patterns areas (drop at file) t room (before .masks-used) (before .patterns-used) (before .areas-used));
+          }

@@ -1,0 +1,12 @@
+-- `blank` meets its contract.
+use mathlib.Core.Path.{refl}
+use lib.Ieee.{ofBits}
+use Rattle.card_file.proofs.cards.blank.Statement.{statement}
+use Rattle.card_file.proofs.cards.blank.Tie as tie
+
+returns : tie.Need-returns
+unfolding ofBits
+returns c = refl
+
+pub blank-spec : {M : Type 1} → statement M
+blank-spec = tie.close (tie.spec returns)

@@ -1,0 +1,3 @@
+// The card file: its fields, one by one, and the card that a whole file holds.
+pub mod cards;
+pub mod fields;
