@@ -1,12 +1,19 @@
-// Writes records of inputs and the answers of the patched Rust, for the program `replay`: oracle KIND COUNT SEED
+// Writes records of inputs and the answers of the patched Rust, for the program `replay`:
+//     oracle KIND COUNT SEED          COUNT random inputs of a kind
+//     oracle 10 COUNT SEED small      short cards alone
+//     oracle 10 COUNT SEED stats      cards, and on standard error how often each case came up
+//     oracle files NAME...            a record of kind 10 for each of the card files
+//     oracle text                     what program `card` prints for the card file on standard input
 // A record is a kind byte, a two-byte length and a body: the input, then the answer; all numbers little-endian. Refusals are worked out here from document
 // 01's table, since the Rust asserts or takes what comes. Either zero is written as 0, and every NaN as one.
 #[path = "../../target/oracle/eunoia.rs"]
 mod eunoia;
+mod card;
+mod cards;
 
 use eunoia::*;
 use std::collections::BTreeMap;
-use std::io::Write;
+use std::io::{Read, Write};
 
 struct Random(u64);
 
@@ -153,6 +160,7 @@ impl Record {
         }
     }
     fn write(&self, kind: u8, out: &mut impl Write) {
+        assert!(self.0.len() < 65536, "a body of {} bytes", self.0.len());
         let mut head = vec![kind];
         head.extend_from_slice(&(self.0.len() as u16).to_le_bytes());
         out.write_all(&head).unwrap();
@@ -462,12 +470,21 @@ fn container_record(random: &mut Random, record: &mut Record) {
     }
 }
 
-fn main() {
-    let words: Vec<u64> = std::env::args().skip(1).map(|w| w.parse().expect("oracle KIND COUNT SEED")).collect();
-    let (kind, count, seed) = (words[0], words[1], words[2]);
+// The length of the card file, the file, and what program `card` prints for it.
+fn card_record(file: &[u8], record: &mut Record) -> card::Outcome {
+    let outcome = card::outcome(file);
+    record.short(file.len());
+    record.0.extend_from_slice(file);
+    record.0.extend_from_slice(&outcome.text);
+    outcome
+}
+
+fn write_random(words: &[String], out: &mut impl Write) {
+    let number = |i: usize| words.get(i).and_then(|w| w.parse::<u64>().ok()).expect("oracle KIND COUNT SEED");
+    let (kind, count, seed) = (number(0), number(1), number(2));
+    let asked = |option: &str| words[3..].iter().any(|w| w == option);
     let mut random = Random(seed.wrapping_mul(0x1000_0000_01b3) ^ kind);
-    let stdout = std::io::stdout();
-    let mut out = std::io::BufWriter::new(stdout.lock());
+    let mut tally = cards::Tally::default();
     for _ in 0..count {
         let mut record = Record::default();
         match kind {
@@ -480,8 +497,33 @@ fn main() {
             7 => columns_record(&mut random, &mut record),
             8 => pack_record(&mut random, &mut record),
             9 => container_record(&mut random, &mut record),
+            10 => tally.count(&card_record(&cards::file(&mut random, asked("small")), &mut record)),
             _ => panic!("no such kind"),
         }
-        record.write(kind as u8, &mut out);
+        record.write(kind as u8, out);
+    }
+    if asked("stats") {
+        tally.print();
+    }
+}
+
+fn main() {
+    let words: Vec<String> = std::env::args().skip(1).collect();
+    let stdout = std::io::stdout();
+    let mut out = std::io::BufWriter::new(stdout.lock());
+    match words.first().map(String::as_str) {
+        Some("files") => {
+            for name in &words[1..] {
+                let mut record = Record::default();
+                card_record(&std::fs::read(name).expect(name), &mut record);
+                record.write(10, &mut out);
+            }
+        }
+        Some("text") => {
+            let mut file = Vec::new();
+            std::io::stdin().read_to_end(&mut file).unwrap();
+            out.write_all(&card::outcome(&file).text).unwrap();
+        }
+        _ => write_random(&words, &mut out),
     }
 }

@@ -1,0 +1,119 @@
+// A card file read as document 01 says ("Card file and program"), and what program `card` prints for it: the layout is the patched Rust's.
+use crate::eunoia::*;
+use std::collections::BTreeMap;
+
+#[derive(Clone, Default)]
+pub struct Card {
+    pub factor: f64,
+    pub circles: Vec<[f64; 3]>,
+    pub regions: Vec<(u64, f64)>,
+}
+
+// What the card came to: the printed text, the refusal's number, and the steps that the layout took.
+pub struct Outcome {
+    pub text: Vec<u8>,
+    pub refusal: usize,
+    pub circles: usize,
+    pub regions: usize,
+    pub seen: Seen,
+}
+
+pub fn outcome(file: &[u8]) -> Outcome {
+    let card = if file.len() > 65536 { Err(2) } else { read(file).and_then(checked) };
+    match card {
+        Ok(card) => laid_out(&card),
+        Err(refusal) => Outcome { text: format!("refused {refusal}\n").into_bytes(), refusal, circles: 0, regions: 0, seen: Seen::default() },
+    }
+}
+
+fn number(bytes: &[u8]) -> u64 {
+    bytes.iter().rev().fold(0, |number, byte| number << 8 | *byte as u64)
+}
+
+fn float(bytes: &[u8]) -> f64 {
+    f64::from_bits(number(bytes))
+}
+
+// Checks run front to back: head cut, tag, count, length, body cut. Then come the values.
+fn read(file: &[u8]) -> Result<Card, usize> {
+    if file.is_empty() {
+        return Err(9);
+    }
+    let mut card = Card::default();
+    let mut at = 0;
+    let mut last = 0;
+    while at < file.len() {
+        if file.len() - at < 3 {
+            return Err(11);
+        }
+        let tag = file[at];
+        let in_place = match tag {
+            1 => last == 0,
+            2 => last == 1 || last == 2,
+            3 => last != 0,
+            _ => false,
+        };
+        if !in_place {
+            return Err(9);
+        }
+        if tag == 2 && card.circles.len() == 64 {
+            return Err(1);
+        }
+        if tag == 3 && card.regions.len() == 2048 {
+            return Err(2);
+        }
+        let length = number(&file[at + 1..at + 3]) as usize;
+        if length != [8, 24, 16][tag as usize - 1] {
+            return Err(10);
+        }
+        if file.len() - at - 3 < length {
+            return Err(11);
+        }
+        let body = &file[at + 3..at + 3 + length];
+        match tag {
+            1 => card.factor = float(body),
+            2 => card.circles.push([float(&body[..8]), float(&body[8..16]), float(&body[16..])]),
+            _ => card.regions.push((number(&body[..8]), float(&body[8..]))),
+        }
+        last = tag;
+        at += 3 + length;
+    }
+    Ok(card)
+}
+
+fn checked(card: Card) -> Result<Card, usize> {
+    let refusal = crate::circles_refusal(&card.circles);
+    if refusal != 0 {
+        Err(refusal)
+    } else if card.regions.windows(2).any(|pair| pair[0].0 >= pair[1].0) {
+        Err(5)
+    } else if !(0.0 <= card.factor && card.factor <= 1.0) {
+        Err(6)
+    } else {
+        Ok(card)
+    }
+}
+
+fn bits(x: f64) -> u64 {
+    assert!(x.is_finite(), "an accepted card gave {x}");
+    if x == 0.0 { 0 } else { x.to_bits() }
+}
+
+fn laid_out(card: &Card) -> Outcome {
+    let areas: BTreeMap<usize, f64> = card.regions.iter().map(|(mask, area)| (*mask as usize, *area)).collect();
+    let mut shapes: Vec<Circle> = card.circles.iter().map(|c| crate::circle(*c)).collect();
+    take_seen();
+    normalize_layout_with_clusters(&mut shapes, card.factor, Some(&areas));
+    let seen = take_seen();
+    let mut numbers = [0; 64];
+    for (number, cluster) in seen.clusters.iter().enumerate() {
+        for &i in cluster {
+            numbers[i] = number;
+        }
+    }
+    let mut text = format!("circles {} clusters {} moved {:016x} padding {:016x}\n", shapes.len(), seen.clusters.len(), seen.moved, bits(seen.padding));
+    for (i, c) in shapes.iter().enumerate() {
+        text += &format!("{i} {} {:016x} {:016x} {:016x}\n", numbers[i], bits(c.center().x()), bits(c.center().y()), bits(c.radius()));
+    }
+    Outcome { text: text.into_bytes(), refusal: 0, circles: shapes.len(), regions: card.regions.len(), seen }
+}
