@@ -220,6 +220,13 @@ fn families(random: &mut Random, n: usize, areas: &mut Areas) -> Vec<[f64; 3]> {
             child_areas(random, n, p, i, own, areas);
         }
     }
+    // a child that stands elsewhere bars others until it is moved
+    if n > 2 && random.below(4) == 0 {
+        let (i, j) = (random.below(n as u64) as usize, random.below(n as u64) as usize);
+        let [x, y, _] = circles[i];
+        circles[i] = [circles[j][0], circles[j][1], circles[i][2]];
+        circles[j] = [x, y, circles[j][2]];
+    }
     circles
 }
 
@@ -231,7 +238,8 @@ fn child(random: &mut Random, parent: [f64; 3]) -> [f64; 3] {
         _ => r * (random.unit() * 0.9 + 0.05),
     };
     let free = r - radius;
-    let angle = random.pick(&[[1.0, 0.0], [-1.0, 0.0], [0.0, 1.0], [0.0, -1.0], [0.6, 0.8], [-0.8, 0.6], [-0.6, -0.8]]);
+    let any = random.unit() * 6.3;
+    let angle = random.pick(&[[1.0, 0.0], [-1.0, 0.0], [0.0, 1.0], [0.0, -1.0], [0.6, 0.8], [-0.8, 0.6], [any.cos(), any.sin()], [any.cos(), any.sin()]]);
     let distance = match random.below(9) {
         0 | 1 => 0.0,
         2 => free,
@@ -247,7 +255,7 @@ fn child(random: &mut Random, parent: [f64; 3]) -> [f64; 3] {
 
 fn child_areas(random: &mut Random, n: usize, p: usize, i: usize, own: f64, areas: &mut Areas) {
     let both = single(p) | single(i);
-    let shared = random.pick(&[3.0, 1.0, 1e-3, own, own * 1e-7, 12.5]);
+    let shared = random.pick(&[3.0, 1.0, 1e-3, own, own * 1e-7, 12.5, 1e6]);
     areas.insert(both, shared);
     match random.below(14) {
         0 => drop(areas.insert(single(i), random.pick(&[0.0, -0.0, -1.0, 1e-11, 1e-10, 1e-3]))),
@@ -300,11 +308,18 @@ fn damage(random: &mut Random, fields: &mut Vec<Field>) {
     if fields.is_empty() {
         return;
     }
+    if random.below(2) == 0 {
+        damage_shape(random, fields);
+    } else {
+        damage_value(random, fields);
+    }
+}
+
+// Tags, lengths and order.
+fn damage_shape(random: &mut Random, fields: &mut Vec<Field>) {
     let any = random.below(fields.len() as u64) as usize;
     let last = fields.len() - 1;
-    let circles: Vec<usize> = (0..fields.len()).filter(|i| fields[*i].tag == 2 && fields[*i].body.len() == 24).collect();
-    let regions: Vec<usize> = (0..fields.len()).filter(|i| fields[*i].tag == 3 && fields[*i].body.len() == 16).collect();
-    match random.below(11) {
+    match random.below(6) {
         0 => fields[any].tag = random.pick(&[0, 1, 2, 3, 4, 255]),
         1 => {
             let length = fields[any].length;
@@ -316,16 +331,35 @@ fn damage(random: &mut Random, fields: &mut Vec<Field>) {
             fields.insert(random.below(last as u64 + 2) as usize, again);
         }
         4 => drop(fields.remove(any)),
-        5 | 6 if !circles.is_empty() => {
+        _ => {
+            let length = random.pick(&[0, 7, 8, 9, 15, 17, 23, 25]);
+            fields[any].body.resize(length, 0);
+            fields[any].length = length;
+        }
+    }
+}
+
+// Where the fields of a tag stand whose bodies have their right length.
+fn places(fields: &[Field], tag: u8, length: usize) -> Vec<usize> {
+    (0..fields.len()).filter(|i| fields[*i].tag == tag && fields[*i].body.len() == length).collect()
+}
+
+// Coordinates, radii, masks and the factor.
+fn damage_value(random: &mut Random, fields: &mut [Field]) {
+    let circles = places(fields, 2, 24);
+    let regions = places(fields, 3, 16);
+    let factors = places(fields, 1, 8);
+    match random.below(6) {
+        0 | 1 if !circles.is_empty() => {
             let bad = random.pick(&[above(END), -above(END), f64::NAN, f64::INFINITY, f64::NEG_INFINITY, 1e300]);
             let at = random.below(2) as usize * 8;
             fields[random.pick(&circles)].body[at..at + 8].copy_from_slice(&bad.to_le_bytes());
         }
-        7 if !circles.is_empty() => {
+        2 if !circles.is_empty() => {
             let bad = random.pick(&[above(END), below(LEAST_RADIUS), 0.0, -0.0, -1.0, f64::NAN, f64::INFINITY, 5e-324]);
             fields[random.pick(&circles)].body[16..].copy_from_slice(&bad.to_le_bytes());
         }
-        8 if regions.len() > 1 => {
+        3 | 4 if regions.len() > 1 => {
             let i = random.below(regions.len() as u64 - 1) as usize;
             let (one, other) = (regions[i], regions[i + 1]);
             if random.below(2) == 0 {
@@ -335,15 +369,11 @@ fn damage(random: &mut Random, fields: &mut Vec<Field>) {
                 fields[other].body[..8].copy_from_slice(&mask);
             }
         }
-        9 if fields[0].body.len() == 8 => {
+        _ if !factors.is_empty() => {
             let bad = random.pick(&[above(1.0), -5e-324, -1.0, 2.0, f64::NAN, f64::INFINITY, f64::NEG_INFINITY]);
-            fields[0].body.copy_from_slice(&bad.to_le_bytes());
+            fields[random.pick(&factors)].body.copy_from_slice(&bad.to_le_bytes());
         }
-        _ => {
-            let length = random.pick(&[0, 7, 8, 9, 15, 17, 23, 25]);
-            fields[any].body.resize(length, 0);
-            fields[any].length = length;
-        }
+        _ => {}
     }
 }
 
