@@ -2,3 +2,4 @@ pub mod FieldLaws
 pub mod Filling
 pub mod Reading
 pub mod Values
+pub mod Texts

@@ -1,3 +1,66 @@
-// The card file: its fields, one by one, and the card that a whole file holds.
+// The card file: its fields, one by one, the card that a whole file holds, and what is printed of it.
 pub mod cards;
 pub mod fields;
+
+ghost use mathlib.Core.Path.{_≡_};
+ghost use Prim.Native.Nat.{_≤_};
+ghost use lib.ListN.{length, take};
+ghost use Rattle.scope.specs.Runs.{filled};
+ghost use Rattle.scope.specs.Layout.{layout};
+ghost use Rattle.scope.specs.Print.{printed, cardText};
+ghost use Rattle.lines.specs.Texts.{maxText};
+ghost use Rattle.card_file.specs.Unused.{RestIsBlank};
+use crate::cards::Card;
+use crate::cards::read_card;
+use layout::normalize::normalize_layout_with_clusters_by_value;
+use lines::Text;
+use lines::printed;
+use lines::refused_text;
+
+// A longer input is refused (2), before anything is read as a field.
+pub const MAX_INPUT: usize = 65536;
+
+// The very bytes that program `card` prints for an input.
+pub fn card_text(input: &[u8]) -> Text
+    ensures { λ r. ⌜ (r .length ≡ length (cardText (now (input .entry)))) × (r .bytes ≡ filled maxText 0 (cardText (now (input .entry)))) × (r .length ≤ maxText) ⌝ }
+{
+    if input.len() > MAX_INPUT {
+        return refused_text(2);
+    }
+    let card = read_card(input);
+    let refusal = card.refusal;
+    if refusal != 0 {
+        return refused_text(refusal);
+    }
+    layout_text(card)
+}
+
+// The layout of a card that was read.
+fn layout_text(card: Card) -> Text
+    requires { ⌜ RestIsBlank card ⌝ }
+    ensures { λ r. ⌜ (r .length ≡ length (printed (layout (take (card .n) (card .circles)) (card .factor) (take (card .m) (card .masks)) (take (card .m) (card .areas))))) × (r .bytes ≡ filled maxText 0 (printed (layout (take (card .n) (card .circles)) (card .factor) (take (card .m) (card .masks)) (take (card .m) (card .areas))))) × (r .length ≤ maxText) ⌝ }
+{
+    let n = card.n;
+    let circles = card.circles;
+    let m = card.m;
+    let masks = card.masks;
+    let areas = card.areas;
+    let laid = normalize_layout_with_clusters_by_value(
+        circles,
+        n,
+        card.factor,
+        &masks[..m],
+        &areas[..m],
+    );
+    let result = laid.result;
+    let placed = laid.circles;
+    let numbers = result.numbers;
+    printed(
+        placed,
+        n,
+        result.count,
+        numbers,
+        result.moved,
+        result.padding,
+    )
+}

@@ -1,5 +1,6 @@
 -- The whole layout on the first n circles of an array: what is known when it is accepted, what comes back, and that it keeps the four promises.
 use Prim.Native.Nat.{ℕ, _≤_}
+use native.Mathlib.Decide.{ℕ-discrete}
 use native.Mathlib.Omega.{arith}
 use mathlib.Core.Path.{_≡_, refl, sym, ap, _∙_, subst}
 use mathlib.Core.Logic.{_≢_}
@@ -24,6 +25,15 @@ use Rattle.promises.proofs.Demand3.{layout-promises}
 use Rattle.intake.proofs.Checking.{few}
 use Rattle.layout.specs.FirstLayout.{layoutNumber, withOthers, firstLayout}
 use Rattle.layout.proofs.Arrangement.{arranged-length}
+
+pub layout-length : (cs : List Circle) (factor : Float) (masks : List ℕ) (areas : List Float) → length (layout cs factor masks areas .circles) ≡ length cs
+unfolding refusedLayout
+layout-length cs factor masks areas =
+    let answers = layout-answers cs factor masks areas in
+    elim (ℕ-discrete (layoutRefusal cs factor masks areas) 0) [
+      | yes z ↦ rw (answers .on-acceptance z) (arranged-length cs factor (regions masks areas))
+      | no z ↦ rw (answers .at-refusal z)
+    ]
 
 pub refused-answer : (k : ℕ) (cs : List Circle) (r : Result) → r ≡ refusedLayout k [] .result → _≡_ {A = Layout} (record { result = r; circles = cs }) (refusedLayout k cs)
 unfolding refusedLayout

@@ -1,6 +1,7 @@
 // Replays records of inputs and of the answers that the patched Rust gave, and prints for each kind how many agree.
 // A record is a kind byte, a two-byte length and a body: the input, then the answer.
 mod boxes;
+mod cards;
 mod circles;
 mod groups;
 mod places;
@@ -10,14 +11,14 @@ use libc::STDIN_FILENO;
 use libc::STDOUT_FILENO;
 ghost use Prim.Native.Nat.{_≤_, _<_};
 
-const KINDS: usize = 9;
+const KINDS: usize = 10;
 
 // More records than any list has.
 const BUDGET: u64 = 100000000;
 
 struct Tally {
-    seen: [u64; 10],
-    agreed: [u64; 10],
+    seen: [u64; 11],
+    agreed: [u64; 11],
 }
 
 // What one record came to: the end, or its kind, plus 100 where it agrees.
@@ -36,6 +37,7 @@ fn main() {
     line(b"columns ", tally.agreed[7], tally.seen[7]);
     line(b"packing ", tally.agreed[8], tally.seen[8]);
     line(b"container ", tally.agreed[9], tally.seen[9]);
+    line(b"whole cards ", tally.agreed[10], tally.seen[10]);
     line(b"malformed ", tally.agreed[0], tally.seen[0]);
 }
 
@@ -49,8 +51,8 @@ fn line(name: &[u8], agreed: u64, seen: u64) {
 
 // A record of no known kind, or one that is cut, counts as one of kind 0.
 fn all() -> Tally {
-    let mut seen = [0u64; 10];
-    let mut agreed = [0u64; 10];
+    let mut seen = [0u64; 11];
+    let mut agreed = [0u64; 11];
     let mut turn: u64 = 0;
     while turn < BUDGET {
         let outcome = next();
@@ -58,7 +60,7 @@ fn all() -> Tally {
             return Tally { seen, agreed };
         }
         let kind = outcome % AGREES;
-        if kind < 10 {
+        if kind < 11 {
             seen[kind] = more(seen[kind]);
             if outcome >= AGREES {
                 agreed[kind] = more(agreed[kind]);
@@ -135,6 +137,7 @@ fn agrees(kind: usize, body: &[u8]) -> bool {
         7 => places::columns_agree(body),
         8 => places::pack_agrees(body),
         9 => places::container_agrees(body),
+        10 => cards::card_agrees(body),
         _ => false,
     }
 }

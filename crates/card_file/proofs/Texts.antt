@@ -1,0 +1,64 @@
+-- What is printed of a card: the refusal's text, or that of its layout.
+use Prim.Native.Nat.{ℕ, zero, suc, _≤_, _<_}
+use native.Mathlib.Omega.{arith}
+use mathlib.Core.Path.{_≡_, refl, sym, ap, _∙_}
+use mathlib.Core.Bool.{false}
+use mathlib.Core.List.{List}
+use lib.Ieee.{Float}
+use lib.ListN.{length, take, drop}
+use lib.Seq.{length-take-le, take-at}
+use borrow.Author.Tests.{lt-ltb, le-ltb}
+use Rattle.shapes.specs.declared.geometry.shapes.circle.Circle.{Circle}
+use Rattle.scope.specs.Limits.{circleCap, inputCap}
+use Rattle.scope.specs.Refusals.{Answer, answer, tooMany}
+use Rattle.scope.specs.Layout.{Layout, layout}
+use Rattle.scope.specs.CardFile.{readCard}
+use Rattle.scope.specs.Print.{printed, refusedText, answerText, cardText}
+use Rattle.layout.specs.FirstLayout.{firstLayout}
+use Rattle.layout.proofs.WholeLayout.{layout-length}
+use Rattle.lines.specs.Texts.{layoutOf}
+use Rattle.card_file.specs.Answers.{ReadCard}
+
+-- ---- the layout's text is that of its first n circles
+
+not-too-many : (n : ℕ) → n ≤ circleCap → tooMany n ≡ false
+unfolding tooMany
+not-too-many n h = le-ltb circleCap n h
+
+module _ (n : ℕ) (cs : List Circle) (factor : Float) (masks : List ℕ) (areas : List Float) (full : length cs ≡ circleCap) (few : n ≤ circleCap) where
+  abbrev laid : Layout
+  laid = layout (take n cs) factor masks areas
+
+  pub laid-out-prints : (l : Layout) → l ≡ firstLayout n cs factor masks areas
+      → printed (layoutOf (l .circles) n (l .result .count) (l .result .numbers) (l .result .moved) (l .result .padding)) ≡ printed laid
+  unfolding printed firstLayout
+  laid-out-prints l e =
+      let inside : n ≤ length cs = omega arith in
+      let long : length (laid .circles) ≡ n = layout-length (take n cs) factor masks areas ∙ length-take-le n cs inside in
+      rw (e, not-too-many n few, take-at (laid .circles) (drop n cs) n long)
+
+-- ---- which text it is
+
+pub long-text : (input : List ℕ) → inputCap < length input → refusedText 2 ≡ cardText input
+unfolding cardText
+long-text input h = rw (lt-ltb inputCap (length input) h)
+
+short-text : (input : List ℕ) → length input ≤ inputCap → answerText (readCard input) ≡ cardText input
+unfolding cardText
+short-text input h = rw (le-ltb inputCap (length input) h)
+
+module _ (input : List ℕ) (short : length input ≤ inputCap) (k : ℕ) (card : ReadCard) (e : answer k card ≡ readCard input) where
+  of-answer : answerText (answer k card) ≡ cardText input
+  of-answer = rw e (short-text input short)
+
+  pub refusal-text : (k ≡ 0 → ⊥) → refusedText k ≡ cardText input
+  unfolding answer answerText
+  refusal-text h = by-number k refl of-answer
+    where
+      by-number : (j : ℕ) → j ≡ k → answerText (answer j card) ≡ cardText input → refusedText k ≡ cardText input
+      by-number zero q t = absurd (h (sym q))
+      by-number (suc j) q t = rw (← q) t
+
+  pub given-text : k ≡ 0 → printed (layout (card .circles) (card .factor) (card .masks) (card .areas)) ≡ cardText input
+  unfolding answer answerText
+  given-text z = rw z at of-answer

@@ -1,0 +1,33 @@
+-- A text in a buffer of bytes, and what it is to put more behind it.
+use Prim.Native.Nat.{ℕ, _+_}
+use mathlib.Core.Path.{_≡_}
+use mathlib.Core.List.{List, [], _++_}
+use lib.ListN.{length, getD, take}
+use lib.Ieee.{Float}
+use Rattle.shapes.specs.declared.geometry.shapes.circle.Circle.{Circle}
+use Rattle.scope.specs.Runs.{filled, inTurn}
+use Rattle.scope.specs.Links.{circle}
+use Rattle.scope.specs.Layout.{Layout}
+use Rattle.scope.specs.Print.{line}
+
+abbrev pub maxText : ℕ
+maxText = 4096
+
+-- the buffer begins with the text and is 0 behind it, where the next byte goes
+pub record Holds (text : List ℕ) (at : ℕ) (buffer : List ℕ) : Type 0 where
+  pub place : at ≡ length text
+  pub is : buffer ≡ filled maxText 0 text
+
+-- the bytes were put behind whatever text the buffer held
+pub record Put (bytes : List ℕ) (at : ℕ) (before : List ℕ) (next : ℕ) (after : List ℕ) : Type 0 where
+  pub place : next ≡ at + length bytes
+  pub holds : (text : List ℕ) → Holds text at before → Holds (text ++ bytes) next after
+
+-- the lines of the first i circles, as `printed` runs through them
+abbrev pub linesOf : List Circle → List ℕ → ℕ → List ℕ
+linesOf circles numbers i = inTurn i (λ i text. text ++ line i (getD numbers i 0) (circle circles i)) []
+
+-- an accepted layout of the first n circles
+abbrev pub layoutOf : List Circle → ℕ → ℕ → List ℕ → ℕ → Float → Layout
+layoutOf circles n count numbers moved padding =
+    record { result = record { refusal = 0; count = count; numbers = numbers; moved = moved; padding = padding }; circles = take n circles }
