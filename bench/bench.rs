@@ -1,0 +1,199 @@
+// Times the whole layout of the port and of the Rust on the same inputs, in one run, and prints port over Rust.
+// Each workload is run in rounds, the two sides in turn; the figure is the median of the rounds' ratios.
+#[path = "../target/bench/eunoia.rs"]
+mod eunoia;
+
+use eunoia::{Circle, Point, normalize_layout_with_clusters};
+use std::collections::BTreeMap;
+use std::hint::black_box;
+use std::time::Instant;
+
+#[link(name = "rundhefja", kind = "static")]
+unsafe extern "C" {
+    fn rundhefja_layout(
+        circles: *mut f64,
+        circles_len: usize,
+        factor: f64,
+        masks: *const u64,
+        masks_len: usize,
+        areas: *const f64,
+        areas_len: usize,
+        numbers: *mut u8,
+        numbers_len: usize,
+        facts: *mut u64,
+        facts_len: usize,
+        padding: *mut f64,
+        padding_len: usize,
+    ) -> u8;
+    fn rundhefja_root(x: f64, root: *mut f64, root_len: usize) -> u8;
+}
+
+struct Card {
+    factor: f64,
+    circles: Vec<f64>,
+    masks: Vec<u64>,
+    areas: Vec<f64>,
+}
+
+impl Card {
+    fn new(circles: &[[f64; 3]], regions: &[(u64, f64)]) -> Card {
+        let mut regions = regions.to_vec();
+        regions.sort_by_key(|r| r.0);
+        regions.dedup_by_key(|r| r.0);
+        Card {
+            factor: 0.015,
+            circles: circles.concat(),
+            masks: regions.iter().map(|r| r.0).collect(),
+            areas: regions.iter().map(|r| r.1).collect(),
+        }
+    }
+    fn port(&self) -> Vec<f64> {
+        let mut circles = self.circles.clone();
+        let (mut numbers, mut facts, mut padding) = ([0u8; 64], [0u64; 2], [0.0; 1]);
+        let refusal = unsafe {
+            rundhefja_layout(
+                circles.as_mut_ptr(),
+                circles.len(),
+                self.factor,
+                self.masks.as_ptr(),
+                self.masks.len(),
+                self.areas.as_ptr(),
+                self.areas.len(),
+                numbers.as_mut_ptr(),
+                numbers.len(),
+                facts.as_mut_ptr(),
+                facts.len(),
+                padding.as_mut_ptr(),
+                padding.len(),
+            )
+        };
+        assert_eq!(refusal, 0);
+        circles
+    }
+    fn areas_of(&self) -> BTreeMap<usize, f64> {
+        self.masks.iter().zip(&self.areas).map(|(m, a)| (*m as usize, *a)).collect()
+    }
+    fn rust(&self, areas: &BTreeMap<usize, f64>) -> Vec<Circle> {
+        let mut shapes: Vec<Circle> = self.circles.chunks(3).map(|c| Circle::new(Point::new(c[0], c[1]), c[2])).collect();
+        normalize_layout_with_clusters(&mut shapes, self.factor, Some(areas));
+        shapes
+    }
+}
+
+struct Random(u64);
+
+impl Random {
+    fn next(&mut self) -> u64 {
+        self.0 = self.0.wrapping_mul(6364136223846793005).wrapping_add(1442695040888963407);
+        self.0 >> 11
+    }
+    fn unit(&mut self) -> f64 {
+        self.next() as f64 / (1u64 << 53) as f64
+    }
+    fn circle(&mut self) -> [f64; 3] {
+        [self.unit() * 200.0 - 100.0, self.unit() * 200.0 - 100.0, self.unit() * 9.0 + 1.0]
+    }
+}
+
+fn many_clusters(random: &mut Random) -> Card {
+    let circles: Vec<_> = (0..64).map(|_| random.circle()).collect();
+    let solo = (0..64).map(|i| (1u64 << i, 1.0 + i as f64));
+    let pairs = (0..16).map(|i| (3u64 << (4 * i), 0.5));
+    Card::new(&circles, &solo.chain(pairs).collect::<Vec<_>>())
+}
+
+fn one_cluster(random: &mut Random) -> Card {
+    let circles: Vec<_> = (0..64).map(|_| random.circle()).collect();
+    let mut regions: Vec<(u64, f64)> = (0..63).map(|i| (3u64 << i, 1.0)).collect();
+    while regions.len() < 2048 {
+        let mask = (random.next() << 32) ^ random.next();
+        if !regions.iter().any(|r| r.0 == mask) {
+            regions.push((mask, random.unit() + 0.01));
+        }
+    }
+    Card::new(&circles, &regions)
+}
+
+// Child 2i + 1 lies in parent 2i and has no region of its own.
+fn parents(random: &mut Random) -> Card {
+    let mut circles = Vec::new();
+    let mut regions = Vec::new();
+    for i in 0..32 {
+        let x = 30.0 * (i % 8) as f64;
+        let y = 30.0 * (i / 8) as f64;
+        circles.push([x, y, 10.0]);
+        circles.push([x + random.unit(), y + random.unit(), 2.0 + random.unit()]);
+        regions.push((1u64 << (2 * i), 20.0));
+        regions.push((3u64 << (2 * i), 5.0));
+    }
+    Card::new(&circles, &regions)
+}
+
+fn small(random: &mut Random) -> Card {
+    let n = 2 + random.next() as usize % 5;
+    let circles: Vec<_> = (0..n).map(|_| random.circle()).collect();
+    let mut regions: Vec<(u64, f64)> = (0..n).map(|i| (1u64 << i, 3.0)).collect();
+    for _ in 0..n {
+        regions.push((1 + random.next() % ((1 << n) - 1), random.unit()));
+    }
+    Card::new(&circles, &regions)
+}
+
+fn median(mut values: Vec<f64>) -> f64 {
+    values.sort_by(f64::total_cmp);
+    values[values.len() / 2]
+}
+
+const ROUNDS: usize = 31;
+
+// Times both sides over and over, in turn, and prints microseconds a call and the ratio.
+fn report(name: &str, calls: usize, mut port: impl FnMut(), mut rust: impl FnMut()) {
+    let (mut ours, mut theirs, mut ratios) = (Vec::new(), Vec::new(), Vec::new());
+    for _ in 0..ROUNDS {
+        let start = Instant::now();
+        port();
+        let a = start.elapsed().as_secs_f64();
+        let start = Instant::now();
+        rust();
+        let b = start.elapsed().as_secs_f64();
+        ours.push(a * 1e6 / calls as f64);
+        theirs.push(b * 1e6 / calls as f64);
+        ratios.push(a / b);
+    }
+    println!("{name:<44} port {:9.4} us, Rust {:9.4} us, ratio {:.2}", median(ours), median(theirs), median(ratios));
+}
+
+fn layouts(name: &str, cards: Vec<Card>, repeats: usize) {
+    let maps: Vec<_> = cards.iter().map(Card::areas_of).collect();
+    for (card, map) in cards.iter().zip(&maps) {
+        let theirs: Vec<f64> = card.rust(map).iter().flat_map(|c| [c.center().x(), c.center().y(), c.radius()]).collect();
+        assert_eq!(card.port(), theirs, "{name}: the answers differ");
+    }
+    report(
+        name,
+        repeats * cards.len(),
+        || (0..repeats).for_each(|_| cards.iter().for_each(|c| drop(black_box(c.port())))),
+        || (0..repeats).for_each(|_| cards.iter().zip(&maps).for_each(|(c, m)| drop(black_box(c.rust(m))))),
+    );
+}
+
+fn main() {
+    let random = &mut Random(2026);
+    layouts("64 circles in many clusters", (0..4).map(|_| many_clusters(random)).collect(), 50);
+    layouts("64 circles in one cluster, 2,048 regions", (0..2).map(|_| one_cluster(random)).collect(), 20);
+    layouts("32 parents with a child each", (0..4).map(|_| parents(random)).collect(), 10);
+    layouts("small cards, 2 to 6 circles", (0..100).map(|_| small(random)).collect(), 20);
+    let numbers: Vec<f64> = (0..100_000).map(|_| random.unit() * 1e6).collect();
+    report(
+        "the root alone",
+        numbers.len(),
+        || {
+            for &x in &numbers {
+                let mut root = [0.0];
+                black_box(unsafe { rundhefja_root(black_box(x), root.as_mut_ptr(), 1) });
+                black_box(root);
+            }
+        },
+        || numbers.iter().for_each(|&x| drop(black_box(black_box(x).sqrt()))),
+    );
+}
