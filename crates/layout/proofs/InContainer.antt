@@ -1,14 +1,12 @@
 -- The container call on the first n circles of an array: which number comes back, and what the answer is.
-use Prim.Native.Nat.{ℕ, zero, suc, _-_, _≤_}
-use native.Mathlib.Nat.{min-eq-left, min-eq-right}
+use Prim.Native.Nat.{ℕ, zero, suc, _≤_}
 use native.Mathlib.Omega.{arith}
 use mathlib.Core.Path.{_≡_, refl, sym, _∙_}
 use mathlib.Core.Logic.{_≢_}
 use mathlib.Core.Bool.{Bool, true, false, _||_, cond}
-use mathlib.Core.List.{List, _++_, append-nil}
-use lib.ListN.{length, take, drop, replicate, take-append-drop, drop-of-length-le}
-use lib.Seq.{length-take-le, take-at}
-use borrow.Author.Tests.{ltb-true}
+use mathlib.Core.List.{List}
+use lib.ListN.{length, take, take-append-drop}
+use lib.Seq.{length-take-le}
 use lib.Dec.{eqb}
 use lib.Ieee.{Float, neg}
 use Rattle.shapes.specs.Records.{pointAt, rectangleOf}
@@ -16,7 +14,7 @@ use Rattle.shapes.specs.declared.geometry.primitives.bounds.Bounds.{Bounds}
 use Rattle.shapes.specs.declared.geometry.shapes.circle.Circle.{Circle}
 use Rattle.shapes.specs.declared.geometry.shapes.rectangle.Rectangle.{Rectangle}
 use Rattle.scope.specs.Numbers.{nought}
-use Rattle.scope.specs.Runs.{any, always, filled}
+use Rattle.scope.specs.Runs.{any, always}
 use Rattle.scope.specs.Links.{circle}
 use Rattle.scope.specs.Offset.{translated}
 use Rattle.scope.specs.Gauge.{middleX, middleY}
@@ -28,13 +26,13 @@ use Rattle.scope.specs.Container.{Contained, reachesPast, centredIn, settled, c
 use Rattle.promises.proofs.Runs.{length-tab}
 use Rattle.promises.proofs.EntryPoints.{circles-reads, container-reads}
 use Rattle.promises.proofs.AfterRefusal.{container-answers}
-use Rattle.intake.specs.Limits.{maxCircles}
-use Rattle.intake.specs.Lent.{blank, loaded, stored}
+use Rattle.intake.specs.Lent.{loaded, stored}
 use Rattle.intake.specs.First.{onFirst}
 use Rattle.layout.specs.First.{withRest, firstContained, placedOf, placedLoaded, off, near}
 use Rattle.intake.proofs.Checking.{few}
 use Rattle.intake.proofs.InPlace.{on-first-twice, either-length}
 use Rattle.grouping.proofs.PlainClusters.{firstRefusal, few-whole}
+use Rattle.layout.proofs.LentRun.{many-whole, few-back}
 
 -- the number of the circles' own checks, and that of all, from the causes
 abbrev ofCircles : Bool → Bool → Bool → ℕ
@@ -222,26 +220,9 @@ module _ (ys : List Circle) (container : Rectangle) where
   abbrev n′ : ℕ
   n′ = length ys
 
-  abbrev whole : List Circle
-  whole = loaded ys .circles
-
-  -- too many: the first of them are written back as they were
   many-number : tooMany n′ ≡ true → containerRefusal ys container ≡ 1
   unfolding frontToBack
   many-number h = rw (container-reads ys container .runs, h)
-
-  many-whole : tooMany n′ ≡ true → stored whole ys ≡ ys
-  unfolding filled tooMany circleCap
-  many-whole h =
-      let g : maxCircles ≤ n′ = omega (arith, ltb-true maxCircles n′ h) in
-      rw (min-eq-right g, take-at (take maxCircles ys) (replicate (maxCircles - length (take maxCircles ys)) blank) maxCircles (length-take-le maxCircles ys g)) (take-append-drop maxCircles ys)
-
-  -- few: their answer goes back whole
-  few-back : (zs : List Circle) → length zs ≡ n′ → tooMany n′ ≡ false → stored (zs ++ drop n′ whole) ys ≡ zs
-  unfolding circleCap
-  few-back zs e h =
-      let at-most : n′ ≤ n′ = omega arith in
-      rw (min-eq-left (few n′ h), take-at zs (drop n′ whole) n′ e, drop-of-length-le ys {i = n′} at-most) (append-nil zs)
 
   pub lent-answer : (placedLoaded (loaded ys) container .answer ≡ placedOf (contained ys container)) × (stored (placedLoaded (loaded ys) container .layout .circles) ys ≡ contained ys container .circles)
   unfolding placedLoaded firstContained
@@ -251,5 +232,5 @@ module _ (ys : List Circle) (container : Rectangle) where
           → (placedLoaded (loaded ys) container .answer ≡ placedOf (contained ys container)) × (stored (placedLoaded (loaded ys) container .layout .circles) ys ≡ contained ys container .circles)
       by-count true h =
           let same = container-answers ys container .at-refusal (λ z. let one-is-not : 1 ≡ 0 = sym (many-number h) ∙ z in absurd (omega arith)) in
-          (rw (h, same, many-number h), rw (h, same) (many-whole h))
-      by-count false h = (rw (h, few-whole ys h), rw (h, few-whole ys h) (few-back (contained ys container .circles) contained-length h))
+          (rw (h, same, many-number h), rw (h, same) (many-whole ys h))
+      by-count false h = (rw (h, few-whole ys h), rw (h, few-whole ys h) (few-back ys (contained ys container .circles) contained-length h))

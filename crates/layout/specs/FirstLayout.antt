@@ -7,7 +7,10 @@ use lib.ListN.{take, drop}
 use lib.Ieee.{Float}
 use Rattle.shapes.specs.declared.geometry.shapes.circle.Circle.{Circle}
 use Rattle.scope.specs.Refusals.{tooMany, layoutRefusal}
-use Rattle.scope.specs.Layout.{Layout, layout, refusedLayout}
+use Rattle.scope.specs.Layout.{Result as Outcome, Layout, layout, refusedLayout}
+use Rattle.intake.specs.declared.lent.Loaded.{Loaded}
+use Rattle.layout.specs.declared.normalize.Result.{Result}
+use Rattle.layout.specs.declared.normalize.LaidCircles.{LaidCircles}
 
 -- a count above the cap is refused, and no circle looked at
 unfoldable pub layoutNumber : ℕ → List Circle → Float → List ℕ → List Float → ℕ
@@ -19,6 +22,16 @@ withOthers n cs l = record { result = l .result; circles = l .circles ++ drop n 
 
 unfoldable pub firstLayout : ℕ → List Circle → Float → List ℕ → List Float → Layout
 firstLayout n cs factor masks areas = cond (tooMany n) (refusedLayout 1 cs) (withOthers n cs (layout (take n cs) factor masks areas))
+
+-- the same of a run that was loaded, its circles apart from the result
+abbrev pub asResult : Outcome → Result
+asResult o = record { refusal = o .refusal; count = o .count; numbers = o .numbers; moved = o .moved; padding = o .padding }
+
+abbrev pub laidOf : ℕ → Layout → LaidCircles
+laidOf n r = record { result = asResult (r .result); layout = record { circles = r .circles; n = n } }
+
+unfoldable pub laidLoaded : Loaded → Float → List ℕ → List Float → LaidCircles
+laidLoaded l factor masks areas = laidOf (l .n) (firstLayout (l .n) (l .circles) factor masks areas)
 
 -- which of three checks' numbers comes back: 1, 13 and 2 of the regions, those of the circles, 5 of the regions, 6 of the factor
 unfoldable pub firstOf : ℕ → ℕ → Bool → ℕ

@@ -12,14 +12,14 @@ ghost use Rattle.scope.specs.Refusals.{tooMany, regionsRefusal, containerRefusa
 ghost use Rattle.scope.specs.Packing.{noRectangle, rectangle};
 ghost use Rattle.scope.specs.Padding.{boxAll, asRectangle, boxes, padding, shift, shifted, packClusters};
 ghost use Rattle.scope.specs.Centring.{allTranslated, centredLayout};
-ghost use Rattle.scope.specs.Layout.{arranged, refusedLayout};
+ghost use Rattle.scope.specs.Layout.{layout, arranged, refusedLayout};
 ghost use Rattle.scope.specs.Promises.{Promises};
 ghost use Rattle.scope.specs.Container.{reachesPast, centredIn, settled, contained};
 ghost use Rattle.promises.specs.Demand3.{bound};
 ghost use Rattle.intake.specs.Limits.{maxCircles};
 ghost use Rattle.intake.specs.First.{onFirst};
 ghost use Rattle.layout.specs.Answers.{inContainer, resultOf, laidOut};
-ghost use Rattle.layout.specs.FirstLayout.{layoutNumber, withOthers, firstLayout, firstOf};
+ghost use Rattle.layout.specs.FirstLayout.{layoutNumber, withOthers, firstLayout, firstOf, laidLoaded};
 ghost use Rattle.layout.specs.First.{withRest, firstContained, placedOf, placedLoaded, off, near};
 use gauge::cluster_box;
 use gauge::gauged_clusters;
@@ -81,6 +81,11 @@ struct PlacedCircles {
     layout: Loaded,
 }
 
+struct LaidCircles {
+    result: Result,
+    layout: Loaded,
+}
+
 // ---- the whole layout
 
 // Moves children off their parents' centres, turns and mirrors each cluster, packs the clusters and centres the whole.
@@ -104,6 +109,35 @@ pub fn normalize_layout_with_clusters_by_value(
         };
     }
     arranged(circles, n, factor, masks, areas)
+}
+
+// The same of a lent run. More circles than there is room for are refused, and stay as they are.
+pub fn normalize_layout_with_clusters(
+    circles: &mut [Circle],
+    factor: f64,
+    masks: &[u64],
+    areas: &[f64],
+) -> Result
+    ensures { λ r. ⌜ (resultOf r ≡ layout (now (circles .entry)) factor (now (masks .entry)) (now (areas .entry)) .result) × (now (circles .exit) ≡ layout (now (circles .entry)) factor (now (masks .entry)) (now (areas .entry)) .circles) × (r .refusal ≡ 0 → Promises bound (now (circles .entry)) (regions (now (masks .entry)) (now (areas .entry))) (resultOf r) (now (circles .exit))) ⌝ }
+{
+    let l = load(circles);
+    let d = layout_loaded(l, factor, masks, areas);
+    store(circles, d.layout);
+    d.result
+}
+
+fn layout_loaded(l: Loaded, factor: f64, masks: &[u64], areas: &[f64]) -> LaidCircles
+    ensures { λ r. ⌜ (r ≡ laidLoaded l factor (now (masks .entry)) (now (areas .entry))) × (r .result .refusal ≡ 0 → Promises bound (take (l .n) (l .circles)) (regions (now (masks .entry)) (now (areas .entry))) (resultOf (r .result)) (take (l .n) (r .layout .circles))) ⌝ }
+{
+    let circles = l.circles;
+    let n = l.n;
+    let r = normalize_layout_with_clusters_by_value(circles, n, factor, masks, areas);
+    let result = r.result;
+    let laid = r.circles;
+    LaidCircles {
+        result,
+        layout: Loaded { circles: laid, n },
+    }
 }
 
 fn refused(number: u8) -> Result
