@@ -8,7 +8,6 @@ use lib.Ieee.{Float}
 use lib.ListN.{length, take, drop}
 use lib.Seq.{take-at}
 use Rattle.shapes.specs.declared.geometry.shapes.circle.Circle.{Circle}
-use Rattle.scope.specs.Numbers.{golden}
 use Rattle.scope.specs.Links.{regions}
 use Rattle.scope.specs.Refusals.{frontToBack, tooMany, layoutRefusal}
 use Rattle.scope.specs.Layout.{Layout, refusedLayout, layout}

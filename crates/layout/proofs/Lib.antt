@@ -1,4 +1,5 @@
 pub mod LentRun
+pub mod LentCalls
 pub mod InContainer
 pub mod PackedClusters
 pub mod LayoutNumber
