@@ -4,7 +4,7 @@ use libc::STDOUT_FILENO;
 
 fn main() {
     // One byte more than is taken, so that a longer input shows.
-    let mut input = [0u8; 65537];
+    let mut input = [0u8; card_file::MAX_INPUT + 1];
     let n = io::read_full(STDIN_FILENO, &mut input);
     let text = card_file::card_text(&input[..n]);
     let bytes = text.bytes;

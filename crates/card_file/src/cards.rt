@@ -6,7 +6,6 @@ ghost use lib.Dec.{eqb};
 ghost use lib.ListN.{length, take, drop};
 ghost use Rattle.scope.specs.Refusals.{tooMany, tooManyRegions, layoutRefusal};
 ghost use Rattle.scope.specs.CardFile.{firstRefusal, misplaced, nextRefusal, fields, readFile, readCard};
-ghost use Rattle.intake.specs.Lent.{blank};
 ghost use Rattle.intake.specs.Limits.{maxCircles, maxRegions};
 ghost use Rattle.card_file.specs.Answers.{ReadCard, cardAnswer, refusedCard, started};
 ghost use Rattle.card_file.specs.Unused.{RestIsBlank};
@@ -19,6 +18,7 @@ use crate::fields::length_refusal;
 use crate::fields::tag_at;
 use bits::float_of;
 use bits::word_at;
+use intake::lent::blank;
 use intake::limits::MAX_CIRCLES;
 use intake::limits::MAX_REGIONS;
 use intake::limits::bad_factor;
@@ -26,7 +26,6 @@ use intake::limits::too_many;
 use intake::limits::too_many_regions;
 use intake::refusals::circles_refusal;
 use intake::refusals::regions_refusal;
-use shapes::geometry::primitives::point::Point;
 use shapes::geometry::shapes::circle::Circle;
 
 // A refusal's number or 0, the factor, n circles and m regions. Each area stands beside its pattern, and what is not used is 0.
@@ -126,15 +125,6 @@ fn refused(number: u8) -> Card
         masks: [0u64; MAX_REGIONS],
         patterns: [0u64; MAX_REGIONS],
         areas: [0.0f64; MAX_REGIONS],
-    }
-}
-
-fn blank() -> Circle
-    ensures { λ r. ⌜ r ≡ blank ⌝ }
-{
-    Circle {
-        center: Point { x: 0.0, y: 0.0 },
-        radius: 0.0,
     }
 }
 

@@ -3,7 +3,7 @@ ghost use mathlib.Core.Path.{_≡_};
 ghost use Prim.Native.Nat.{_<_};
 ghost use Rattle.intake.specs.Limits.{maxCircles};
 ghost use Rattle.scope.specs.Links.{circle};
-ghost use Rattle.intake.specs.Lent.{loaded, stored, unloaded, withCircle};
+ghost use Rattle.intake.specs.Lent.{blank, loaded, stored, unloaded, withCircle};
 use crate::limits::MAX_CIRCLES;
 use crate::limits::room;
 use shapes::geometry::primitives::point::Point;
@@ -44,13 +44,19 @@ pub fn store(circles: &mut [Circle], l: Loaded)
 fn unloaded(n: usize) -> Loaded
     ensures { λ r. ⌜ r ≡ unloaded n ⌝ }
 {
-    let none = Circle {
+    Loaded {
+        circles: [blank(); MAX_CIRCLES],
+        n,
+    }
+}
+
+// What stands where there is no circle.
+pub fn blank() -> Circle
+    ensures { λ r. ⌜ r ≡ blank ⌝ }
+{
+    Circle {
         center: Point { x: 0.0, y: 0.0 },
         radius: 0.0,
-    };
-    Loaded {
-        circles: [none; MAX_CIRCLES],
-        n,
     }
 }
 

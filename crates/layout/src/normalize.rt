@@ -101,10 +101,10 @@ pub fn normalize_layout_with_clusters_by_value(
     ensures answer { λ r. ⌜ laidOut r ≡ firstLayout n circles factor (now (masks .entry)) (now (areas .entry)) ⌝ }
     ensures promises { λ r. ⌜ (r .result .refusal ≡ 0 → Promises bound (take n circles) (regions (now (masks .entry)) (now (areas .entry))) (resultOf (r .result)) (take n (r .circles))) ⌝ }
 {
-    let refusal = layout_refusal(circles, n, factor, masks, areas);
-    if refusal != 0 {
+    let number = layout_refusal(circles, n, factor, masks, areas);
+    if number != 0 {
         return Layout {
-            result: refused(refusal),
+            result: refused(number),
             circles,
         };
     }

@@ -3,7 +3,7 @@ ghost use Prim.Native.Nat.{_≤_};
 use crate::read;
 use grouping::clustering;
 use grouping::clustering::Clusters;
-use shapes::geometry::primitives::point::Point;
+use intake::lent::blank;
 use shapes::geometry::shapes::circle::Circle;
 
 // How many circles, their numbers, the answer.
@@ -21,11 +21,7 @@ pub fn circles_agree(body: &[u8]) -> bool {
 
 // The first of n circles from a place on.
 pub fn circles(body: &[u8], at: usize, n: usize) -> [Circle; 64] {
-    let none = Circle {
-        center: Point { x: 0.0, y: 0.0 },
-        radius: 0.0,
-    };
-    let mut all = [none; 64];
+    let mut all = [blank(); 64];
     let mut i: usize = 0;
     while i < 64 {
         if i < n {

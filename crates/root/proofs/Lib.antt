@@ -4,3 +4,4 @@ pub mod ScaleLaws
 pub mod PatternLaws
 pub mod NearestLaws
 pub mod AnswerLaws
+pub mod AsDefined

@@ -2,7 +2,8 @@
 ghost use mathlib.Core.Path.{_≡_};
 ghost use Prim.Native.Nat.{_<_};
 ghost use lib.Ieee.{binary64, ofBits};
-ghost use Rattle.root.specs.Answer.{answer, nearest};
+ghost use Rattle.scope.specs.Distance.{rootAnswer};
+ghost use Rattle.root.specs.Answer.{answer, nearest, rooted};
 ghost use Rattle.root.specs.Parts.{infinity};
 
 pub mod answers;
@@ -18,7 +19,8 @@ const MINUS_ZERO: u64 = 9223372036854775808;
 
 // The f64 nearest the exact root; -0 gives -0, and +infinity itself. NaN and a number below 0 are refused, by 12.
 pub fn root(x: f64) -> Root
-    ensures { λ r. ⌜ r ≡ answer x ⌝ }
+    ensures is { λ r. ⌜ r ≡ answer x ⌝ }
+    ensures defined { λ r. ⌜ rooted r ≡ rootAnswer x ⌝ }
 {
     if x != x {
         return Root::Refused(12);

@@ -1,3 +1,4 @@
+-- `agrees_on` keeps to its bounds and ends.
 use Prim.Native.Nat.{ℕ, suc, _≤_, _<_, _-_, _+_}
 use native.Mathlib.Omega.{arith}
 use borrow.Author.Needs.{needs}
@@ -7,9 +8,6 @@ use lib.ListN.{length, getD, set, length-take}
 use borrow.Author.Needs.{needs}
 use Rattle.replay.proofs.agrees_on.Statement.{statement}
 use Rattle.replay.proofs.agrees_on.Tie as tie
-use Rattle.replay.proofs.agrees_on.Reads as reads
-use Rattle.replay.proofs.agrees_on.Lts as lts
-use Rattle.replay.proofs.agrees.Reads as agrees-reads
 
 -- src/main.rt:111:22
 slice-aggregate-agrees : tie.Need-slice-aggregate-agrees

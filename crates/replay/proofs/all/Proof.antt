@@ -1,3 +1,4 @@
+-- `all` keeps to its bounds and ends.
 use Prim.Native.Nat.{ℕ, suc, _≤_, _<_, _-_, _+_}
 use native.Mathlib.Omega.{arith}
 use borrow.Author.Needs.{needs}
@@ -6,10 +7,6 @@ use mathlib.Core.Bool.{Bool, true, false, not, _&&_, _||_, cond}
 use lib.ListN.{length, getD, set}
 use Rattle.replay.proofs.all.Statement.{statement}
 use Rattle.replay.proofs.all.Tie as tie
-use Rattle.replay.proofs.all.Reads as reads
-use Rattle.replay.proofs.all.Lts as lts
-use Rattle.replay.proofs.more.Reads as more-reads
-use Rattle.replay.proofs.next.Reads as next-reads
 
 abbrev Inv-loop : tie.InvT-loop
 Inv-loop seen₀ agreed₀ turn₀ seen agreed turn = turn ≤ 100000000

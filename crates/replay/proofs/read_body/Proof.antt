@@ -1,3 +1,4 @@
+-- `read_body` keeps to its bounds and ends.
 use Prim.Native.Nat.{ℕ, suc, _≤_, _<_, _-_, _+_}
 use native.Mathlib.Omega.{arith}
 use borrow.Author.Needs.{needs}
@@ -7,9 +8,6 @@ use lib.ListN.{length, getD, set, length-take}
 use borrow.Author.Needs.{needs}
 use Rattle.replay.proofs.read_body.Statement.{statement}
 use Rattle.replay.proofs.read_body.Tie as tie
-use Rattle.replay.proofs.read_body.Reads as reads
-use Rattle.replay.proofs.read_body.Lts as lts
-use Rattle.io.proofs.read_full.Reads as read-full-reads
 
 -- src/main.rt:103:37
 slice-relend-prefix-read-full : tie.Need-slice-relend-prefix-read-full

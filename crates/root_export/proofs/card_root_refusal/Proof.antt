@@ -15,10 +15,10 @@ enum-known-a : tie.Need-enum-known-a
 enum-known-a c = search needs
 
 returns : tie.Need-returns
-returns c = ap refusalOf (sym (c .enum-told .given .1) ∙ c .before .before .root .ensures)
+returns c = ap refusalOf (sym (c .enum-told .given .1) ∙ c .before .before .root .ensures .0)
 
 returns-2 : tie.Need-returns-2
-returns-2 c = ap refusalOf (sym (c .before .a .given .1) ∙ c .before .before .before .root .ensures)
+returns-2 c = ap refusalOf (sym (c .before .a .given .1) ∙ c .before .before .before .root .ensures .0)
 
 pub card-root-refusal-spec : {M : Type 1} → statement M
 card-root-refusal-spec =

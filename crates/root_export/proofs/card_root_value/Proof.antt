@@ -16,11 +16,11 @@ enum-told : tie.Need-enum-told
 enum-told c = search needs
 
 returns : tie.Need-returns
-returns c = ap valueOf (sym (c .before .a .given .1) ∙ c .before .before .before .root .ensures)
+returns c = ap valueOf (sym (c .before .a .given .1) ∙ c .before .before .before .root .ensures .0)
 
 returns-2 : tie.Need-returns-2
 unfolding ofBits
-returns-2 c = ap valueOf (sym (c .enum-told .given .1) ∙ c .before .before .root .ensures)
+returns-2 c = ap valueOf (sym (c .enum-told .given .1) ∙ c .before .before .root .ensures .0)
 
 pub card-root-value-spec : {M : Type 1} → statement M
 card-root-value-spec = tie.close (tie.spec root-requires enum-known-a enum-told returns returns-2)

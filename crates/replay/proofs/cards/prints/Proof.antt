@@ -1,3 +1,4 @@
+-- `prints` keeps to its bounds and ends.
 use Prim.Native.Nat.{ℕ, suc, _≤_, _<_, _-_, _+_}
 use native.Mathlib.Omega.{arith}
 use borrow.Author.Needs.{needs}
@@ -6,8 +7,6 @@ use mathlib.Core.Bool.{Bool, true, false, not, _&&_, _||_, cond}
 use lib.ListN.{length, getD, set}
 use Rattle.replay.proofs.cards.prints.Statement.{statement}
 use Rattle.replay.proofs.cards.prints.Tie as tie
-use Rattle.replay.proofs.cards.prints.Reads as reads
-use Rattle.replay.proofs.cards.prints.Lts as lts
 
 abbrev Inv-loop : tie.InvT-loop
 Inv-loop expected bytes i₀ i = i ≤ 4096

@@ -1,17 +1,18 @@
+-- `circles` keeps to its bounds and ends.
 use Prim.Native.Nat.{_≤_, _-_}
 use native.Mathlib.Omega.{arith}
 use borrow.Author.Needs.{needs}
 use Rattle.replay.proofs.groups.circles.Statement.{statement}
 use Rattle.replay.proofs.groups.circles.Tie as tie
-use Rattle.replay.proofs.groups.circles.Reads as reads
-use Rattle.replay.proofs.groups.circles.Lts as lts
-use Rattle.replay.proofs.groups.circle_at.Reads as circle-at-reads
 
 abbrev Inv-loop : tie.InvT-loop
 Inv-loop body at n all₀ i₀ all i = i ≤ 64
 
 abbrev μ-loop : tie.MeasureT-loop
 μ-loop body at n all₀ i₀ all i = 64 - i
+
+blank-requires : tie.Need-blank-requires Inv-loop μ-loop
+blank-requires c κs = search needs
 
 loop-holds : tie.Need-loop-holds Inv-loop μ-loop
 loop-holds c = omega arith
@@ -43,6 +44,7 @@ circles-spec =
     (tie.spec
     Inv-loop
     μ-loop
+    blank-requires
     loop-holds
     circle-at-requires
     mul-all

@@ -1,3 +1,4 @@
+-- `clusters_of` keeps to its bounds and ends.
 use Prim.Native.Nat.{ℕ, suc, _≤_, _<_, _-_, _+_}
 use native.Mathlib.Omega.{arith}
 use borrow.Author.Needs.{needs}
@@ -7,9 +8,6 @@ use lib.ListN.{length, getD, set, length-take}
 use borrow.Author.Needs.{needs}
 use Rattle.replay.proofs.groups.clusters_of.Statement.{statement}
 use Rattle.replay.proofs.groups.clusters_of.Tie as tie
-use Rattle.replay.proofs.groups.clusters_of.Reads as reads
-use Rattle.replay.proofs.groups.clusters_of.Lts as lts
-use Rattle.grouping.proofs.clustering.find_clusters_from_exclusive_regions.Reads as find-clusters-from-exclusive-regions-reads
 
 -- src/groups.rt:57:72
 slice-aggregate-find-clusters-from-exclusive-regions :

@@ -1,3 +1,4 @@
+-- `grouped` keeps to its bounds and ends.
 use Prim.Native.Nat.{ℕ, suc, _≤_, _<_, _-_, _+_}
 use native.Mathlib.Omega.{arith}
 use borrow.Author.Needs.{needs}
@@ -6,9 +7,6 @@ use mathlib.Core.Bool.{Bool, true, false, not, _&&_, _||_, cond}
 use lib.ListN.{length, getD, set}
 use Rattle.replay.proofs.groups.grouped.Statement.{statement}
 use Rattle.replay.proofs.groups.grouped.Tie as tie
-use Rattle.replay.proofs.groups.grouped.Reads as reads
-use Rattle.replay.proofs.groups.grouped.Lts as lts
-use Rattle.replay.proofs.read.byte.Reads as byte-reads
 
 abbrev Inv-loop : tie.InvT-loop
 Inv-loop body at numbers i₀ i = i ≤ 64

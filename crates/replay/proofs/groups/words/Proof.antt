@@ -1,3 +1,4 @@
+-- `words` keeps to its bounds and ends.
 use Prim.Native.Nat.{ℕ, suc, _≤_, _<_, _-_, _+_}
 use native.Mathlib.Omega.{arith}
 use borrow.Author.Needs.{needs}
@@ -6,9 +7,6 @@ use mathlib.Core.Bool.{Bool, true, false, not, _&&_, _||_, cond}
 use lib.ListN.{length, getD, set}
 use Rattle.replay.proofs.groups.words.Statement.{statement}
 use Rattle.replay.proofs.groups.words.Tie as tie
-use Rattle.replay.proofs.groups.words.Reads as reads
-use Rattle.replay.proofs.groups.words.Lts as lts
-use Rattle.replay.proofs.groups.word.Reads as word-reads
 
 abbrev Inv-loop : tie.InvT-loop
 Inv-loop body at n all₀ i₀ all i = i ≤ n

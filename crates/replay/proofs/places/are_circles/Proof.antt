@@ -1,11 +1,9 @@
+-- `are_circles` keeps to its bounds and ends.
 use Prim.Native.Nat.{_≤_, _-_}
 use native.Mathlib.Omega.{arith}
 use borrow.Author.Needs.{needs}
 use Rattle.replay.proofs.places.are_circles.Statement.{statement}
 use Rattle.replay.proofs.places.are_circles.Tie as tie
-use Rattle.replay.proofs.places.are_circles.Reads as reads
-use Rattle.replay.proofs.places.are_circles.Lts as lts
-use Rattle.replay.proofs.read.is_circle.Reads as is-circle-reads
 
 abbrev Inv-loop : tie.InvT-loop
 Inv-loop body at n all i₀ i = i ≤ n

@@ -1,11 +1,9 @@
+-- `are_rectangles` keeps to its bounds and ends.
 use Prim.Native.Nat.{_≤_, _-_}
 use native.Mathlib.Omega.{arith}
 use borrow.Author.Needs.{needs}
 use Rattle.replay.proofs.places.are_rectangles.Statement.{statement}
 use Rattle.replay.proofs.places.are_rectangles.Tie as tie
-use Rattle.replay.proofs.places.are_rectangles.Reads as reads
-use Rattle.replay.proofs.places.are_rectangles.Lts as lts
-use Rattle.replay.proofs.read.is_rectangle.Reads as is-rectangle-reads
 
 abbrev Inv-loop : tie.InvT-loop
 Inv-loop body at n all i₀ i = i ≤ n

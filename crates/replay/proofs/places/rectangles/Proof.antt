@@ -1,11 +1,9 @@
+-- `rectangles` keeps to its bounds and ends.
 use Prim.Native.Nat.{_≤_, _-_}
 use native.Mathlib.Omega.{arith}
 use borrow.Author.Needs.{needs}
 use Rattle.replay.proofs.places.rectangles.Statement.{statement}
 use Rattle.replay.proofs.places.rectangles.Tie as tie
-use Rattle.replay.proofs.places.rectangles.Reads as reads
-use Rattle.replay.proofs.places.rectangles.Lts as lts
-use Rattle.replay.proofs.read.rectangle.Reads as rectangle-reads
 
 abbrev Inv-loop : tie.InvT-loop
 Inv-loop body n all₀ i₀ all i = i ≤ 64

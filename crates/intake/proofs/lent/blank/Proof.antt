@@ -1,8 +1,8 @@
 -- `blank` meets its contract.
 use mathlib.Core.Path.{refl}
 use lib.Ieee.{ofBits}
-use Rattle.card_file.proofs.cards.blank.Statement.{statement}
-use Rattle.card_file.proofs.cards.blank.Tie as tie
+use Rattle.intake.proofs.lent.blank.Statement.{statement}
+use Rattle.intake.proofs.lent.blank.Tie as tie
 
 returns : tie.Need-returns
 unfolding ofBits
