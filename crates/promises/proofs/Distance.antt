@@ -1,5 +1,5 @@
 -- The laws of the distance that the promises rest on: it is never negative, a finite one has finite coordinates, and the exact distance is at most it plus 3 * 2^-32.
--- Whatever rests on the distance uses these three and never its definition.
+-- Whatever rests on the distance uses these three, and `distance-swapped` of Overlap.antt, and never its definition.
 use mathlib.Core.Path.{_≡_, refl, ap, subst}
 use mathlib.Core.Bool.{true, false}
 use Prim.Native.Nat.{ℕ, _+_, _-_, _*_, _^_, _≤_, _<_}
