@@ -1,0 +1,76 @@
+-- `write_floats` meets its contract: the first i elements stand over those that were there.
+use Prim.Native.Nat.{_-_, _≤_, min}
+use native.Mathlib.Numerals.{add-one}
+use native.Mathlib.Omega.{arith}
+use borrow.Author.Needs.{needs}
+use mathlib.Core.Path.{_≡_, refl, _∙_}
+use lib.ListN.{length, length-set}
+use Rattle.intake.proofs.Loading.{over}
+use Rattle.rundhefja.proofs.Writing.{over-step, over-written}
+use lib.Ieee.{nan}
+use Rattle.rundhefja.proofs.outputs.write_floats.Statement.{statement}
+use Rattle.rundhefja.proofs.outputs.write_floats.Tie as tie
+
+abbrev Inv-loop : tie.InvT-loop
+Inv-loop out₀ floats end i₀ out i = (i ≤ end) × (end ≡ min (length floats) (length out₀)) × (length out ≡ length out₀) × (out ≡ over i floats out₀)
+
+abbrev μ-loop : tie.MeasureT-loop
+μ-loop out₀ floats end i₀ out i = end - i
+
+smaller-requires : tie.Need-smaller-requires Inv-loop μ-loop
+smaller-requires c κs = search needs
+
+loop-holds : tie.Need-loop-holds Inv-loop μ-loop
+loop-holds c = (omega arith, c .smaller .ensures, refl, refl)
+
+mul-out : tie.Need-mul-out Inv-loop μ-loop
+mul-out c = omega arith
+
+shared-slice-read-out : tie.Need-shared-slice-read-out Inv-loop μ-loop
+shared-slice-read-out c = omega arith
+
+mul-out-2 : tie.Need-mul-out-2 Inv-loop μ-loop
+mul-out-2 c = omega arith
+
+slice-write-out : tie.Need-slice-write-out Inv-loop μ-loop
+slice-write-out c = omega arith
+
+add-i : tie.Need-add-i Inv-loop μ-loop
+add-i c = omega arith
+
+loop-less : tie.Need-loop-less Inv-loop μ-loop
+loop-less c = omega arith
+
+loop-again : tie.Need-loop-again Inv-loop μ-loop
+loop-again c =
+    let l = c .before .before .loop in
+    let a = c .before .before .before .before .before .before .args in
+    (omega arith, l .inv .1, simp length-set (l .inv .2), rw add-one (over-step (l .i) (a .floats .now) (a .out .now) (l .out) nan (omega arith) (omega arith) (l .inv .3)))
+
+same-length : tie.Need-same-length Inv-loop μ-loop
+same-length c = omega arith
+
+returns : tie.Need-returns Inv-loop μ-loop
+returns c =
+    let l = c .before .loop in
+    let a = c .before .before .before .before .before .args in
+    let all : l .i ≡ min (length (a .floats .now)) (length (a .out .now)) = omega arith in
+    rw all at (l .inv .3) ∙ over-written (a .floats .now) (a .out .now)
+
+pub write-floats-spec : {M : Type 1} → statement M
+write-floats-spec =
+    tie.close
+    (tie.spec
+    Inv-loop
+    μ-loop
+    smaller-requires
+    loop-holds
+    mul-out
+    shared-slice-read-out
+    mul-out-2
+    slice-write-out
+    add-i
+    loop-less
+    loop-again
+    same-length
+    returns)

@@ -1,0 +1,4 @@
+pub mod Written
+pub mod Answers
+pub mod Pairs
+pub mod Flat
