@@ -4,13 +4,14 @@ use native.Mathlib.Omega.{arith}
 use native.Mathlib.Numerals.{add-one}
 use native.Mathlib.Decide.{decLt, ℕ-discrete}
 use mathlib.Core.Path.{_≡_, refl, sym, ap, _∙_, subst}
-use mathlib.Core.Bool.{Bool, true, false, _&&_, _||_, or-false, or-true, and-false}
+use mathlib.Core.Bool.{Bool, true, false, _&&_, _||_, cond, or-false, or-true, and-false}
 use mathlib.Core.List.{List, []}
 use lib.ListN.{length, getD, set, replicate, length-set, length-replicate, getD-replicate}
-use lib.Seq.{getD-set-same, getD-set-other}
+use lib.Seq.{getD-set-same, getD-set-other, set-getD}
 use lib.Dec.{T, eqb, ltb}
 use borrow.Author.Tests.{lt-ltb, le-ltb, eq-eqb, ne-eqb}
 use Rattle.scope.specs.Closure.{Marks, at, marked, pass, passes, closure}
+use Rattle.promises.proofs.Cases.{tested, is-true, is-false}
 use Rattle.promises.proofs.Marks.{at-marked}
 use Rattle.grouping.specs.Table.{cell, mark, Shows}
 
@@ -105,6 +106,14 @@ module _ (n : ℕ) (f : ℕ → ℕ → Bool) (p : ℕ → Bool) where
 
   pub along-left : (i j : ℕ) {m : List (List ℕ)} → p j ≡ false → Shows n m (along f p i j) → Shows n m (along f p i (j + 1))
   along-left i j t s = shows-same (along f p i (j + 1)) (λ a b ha hb. along-skip i j a b t) s
+
+  -- a mark if the column passes, and what stood there if not
+  pub along-chosen : (i j v : ℕ) {m : List (List ℕ)} → i < n → j < n → v ≡ cond (p j) 1 (cell m i j) → Shows n m (along f p i j) → Shows n (put m i j v) (along f p i (j + 1))
+  along-chosen i j v {m} hi hj e s =
+      elim (tested (p j)) [
+        | yes t ↦ rw (e, is-true (p j) t) (along-taken i j hi hj (is-true (p j) t) s)
+        | no t ↦ rw (e, is-false (p j) t, set-getD (getD m i []) j 0, set-getD m i []) (along-left i j (is-false (p j) t) s)
+      ]
 
 module _ (n : ℕ) (f g : ℕ → ℕ → Bool) where
   pub down-start : {m : List (List ℕ)} → Shows n m f → Shows n m (down f g 0)

@@ -1,6 +1,6 @@
 // Which circles belong together: by the regions that they share, or by how they lie.
 ghost use mathlib.Core.Path.{_≡_};
-ghost use mathlib.Core.Bool.{Bool, not, _&&_, _||_};
+ghost use mathlib.Core.Bool.{Bool, not, cond, _&&_, _||_};
 ghost use Prim.Native.Nat.{ℕ, _<_, _≤_};
 ghost use lib.Dec.{eqb};
 ghost use lib.Ieee.Scale.{finite};
@@ -155,14 +155,19 @@ fn link(m: &mut Table, n: usize, mask: u64)
         if holds(mask, i) {
             let mut j: usize = 0;
             while j < n {
-                if holds(mask, j) {
-                    m[i][j] = 1;
-                }
+                m[i][j] = marked(m[i][j], mask, j);
                 j += 1;
             }
         }
         i += 1;
     }
+}
+
+// A cell of a row that is in the region: 1 where the column is too. A choice of values, so that no jump has to be guessed.
+fn marked(cell: u8, mask: u64, j: usize) -> u8
+    ensures { λ r. ⌜ r ≡ cond (bit mask j) 1 cell ⌝ }
+{
+    if holds(mask, j) { 1 } else { cell }
 }
 
 // Finite and not at most the tolerance. An infinity or a NaN less itself is a NaN.

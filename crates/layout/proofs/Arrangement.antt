@@ -1,6 +1,7 @@
 -- The steps of a layout over arrays, one after the other: each changes the first n circles and leaves the rest, so together they are the whole arrangement.
 -- Cluster numbers that are filled up with 0 name the same clusters.
-use Prim.Native.Nat.{ℕ, zero, suc, _≤_}
+use Prim.Native.Nat.{ℕ, zero, suc, _≤_, _<_}
+use native.Mathlib.Nat.{lt-of-lt-of-le}
 use native.Mathlib.Omega.{arith}
 use mathlib.Core.Path.{_≡_, refl, sym, ap, _∙_, fun-ext}
 use mathlib.Core.Bool.{Bool, cond}
@@ -93,6 +94,13 @@ pub few-clusters : (n : ℕ) (masks : List ℕ) (areas : List Float) (tol : Floa
 few-clusters n masks areas tol a accepted e =
     let rs = regions masks areas in
     rw (e ∙ area-grouping-answers n masks areas tol .on-acceptance accepted) (clusters-numbering n rs tol .few)
+
+pub numbers-below : (n : ℕ) (masks : List ℕ) (areas : List Float) (tol : Float) (a : Grouping) → regionsRefusal n masks areas ≡ 0 → a ≡ areaGrouping n masks areas tol
+    → (i : ℕ) → i < n → getD (a .numbers) i 0 < n
+numbers-below n masks areas tol a accepted e i h =
+    let g = clusters n (regions masks areas) tol in
+    let numbering = clusters-numbering n (regions masks areas) tol in
+    rw (e ∙ area-grouping-answers n masks areas tol .on-acceptance accepted, getD-filled-any circleCap 0 (g .numbers) i) (lt-of-lt-of-le (numbering .inside i h) (numbering .few))
 
 module _ (n : ℕ) (cs : List Circle) (masks : List ℕ) (areas : List Float) (paired : length masks ≡ length areas) where
   abbrev parted : Moved

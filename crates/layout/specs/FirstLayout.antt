@@ -1,12 +1,13 @@
 -- The whole layout on the first n circles of an array, the rest as it was.
-use Prim.Native.Nat.{ℕ}
+use Prim.Native.Nat.{ℕ, _<_}
 use mathlib.Core.Bool.{Bool, cond}
 use mathlib.Core.List.{List, _++_}
 use lib.Dec.{eqb}
-use lib.ListN.{take, drop}
+use lib.ListN.{getD, take, drop}
 use lib.Ieee.{Float}
 use Rattle.shapes.specs.declared.geometry.shapes.circle.Circle.{Circle}
 use Rattle.scope.specs.Refusals.{tooMany, layoutRefusal}
+use Rattle.intake.specs.Limits.{maxCircles}
 use Rattle.scope.specs.Layout.{Result as Outcome, Layout, layout, refusedLayout}
 use Rattle.intake.specs.declared.lent.Loaded.{Loaded}
 use Rattle.layout.specs.declared.normalize.Result.{Result}
@@ -32,6 +33,10 @@ laidOf n r = record { result = asResult (r .result); layout = record { circles =
 
 unfoldable pub laidLoaded : Loaded → Float → List ℕ → List Float → LaidCircles
 laidLoaded l factor masks areas = laidOf (l .n) (firstLayout (l .n) (l .circles) factor masks areas)
+
+-- cluster numbers that have a box
+abbrev pub Numbered : ℕ → List ℕ → Type 0
+Numbered n numbers = (i : ℕ) → i < n → getD numbers i 0 < maxCircles
 
 -- which of three checks' numbers comes back: 1, 13 and 2 of the regions, those of the circles, 5 of the regions, 6 of the factor
 unfoldable pub firstOf : ℕ → ℕ → Bool → ℕ

@@ -9,7 +9,7 @@ ghost use Rattle.scope.specs.Runs.{always, filled};
 ghost use Rattle.scope.specs.Limits.{circleCap};
 ghost use Rattle.scope.specs.Links.{regions};
 ghost use Rattle.scope.specs.Refusals.{tooMany, regionsRefusal, containerRefusal};
-ghost use Rattle.scope.specs.Packing.{noRectangle, rectangle};
+ghost use Rattle.scope.specs.Packing.{noRectangle};
 ghost use Rattle.scope.specs.Padding.{boxAll, asRectangle, boxes, padding, shift, shifted, packClusters};
 ghost use Rattle.scope.specs.Centring.{allTranslated, centredLayout};
 ghost use Rattle.scope.specs.Layout.{layout, arranged, refusedLayout};
@@ -19,7 +19,7 @@ ghost use Rattle.promises.specs.Demand3.{bound};
 ghost use Rattle.intake.specs.Limits.{maxCircles};
 ghost use Rattle.intake.specs.First.{onFirst};
 ghost use Rattle.layout.specs.Answers.{inContainer, resultOf, laidOut};
-ghost use Rattle.layout.specs.FirstLayout.{layoutNumber, withOthers, firstLayout, firstOf, laidLoaded};
+ghost use Rattle.layout.specs.FirstLayout.{Numbered, layoutNumber, withOthers, firstLayout, firstOf, laidLoaded};
 ghost use Rattle.layout.specs.First.{withRest, firstContained, placedOf, placedLoaded, off, near};
 use gauge::cluster_box;
 use gauge::gauged_clusters;
@@ -281,7 +281,7 @@ fn pack_clusters(
     count: usize,
     padding: f64,
 ) -> [Circle; MAX_CIRCLES]
-    requires { ⌜ (n ≤ maxCircles) × (count ≤ maxCircles) ⌝ }
+    requires { ⌜ (n ≤ maxCircles) × (count ≤ maxCircles) × Numbered n numbers ⌝ }
     ensures { λ r. ⌜ ((rects : List Rectangle) → length rects ≡ count → boxes ≡ filled circleCap noRectangle rects → r ≡ onFirst n (packClusters golden numbers rects padding) circles) ⌝ }
 {
     if count < 2 {
@@ -298,27 +298,17 @@ fn all_shifted(
     old: [Rectangle; MAX_CIRCLES],
     new: [Rectangle; MAX_CIRCLES],
 ) -> [Circle; MAX_CIRCLES]
-    requires { ⌜ n ≤ maxCircles ⌝ }
+    requires { ⌜ (n ≤ maxCircles) × Numbered n numbers ⌝ }
     ensures { λ r. ⌜ r ≡ onFirst n (shifted numbers old new) circles ⌝ }
 {
     let mut moved = circles;
     let mut i: usize = 0;
     while i < n {
-        let a = numbers[i];
-        moved[i] = shift(rectangle_at(old, a), rectangle_at(new, a), moved[i]);
+        let a = numbers[i] as usize;
+        moved[i] = shift(old[a], new[a], moved[i]);
         i += 1;
     }
     moved
-}
-
-fn rectangle_at(boxes: [Rectangle; MAX_CIRCLES], a: u8) -> Rectangle
-    ensures { λ r. ⌜ r ≡ rectangle boxes a ⌝ }
-{
-    let k = a as usize;
-    if k < MAX_CIRCLES {
-        return boxes[k];
-    }
-    no_rectangle()
 }
 
 // A circle moves as the centre of its cluster's box does.

@@ -6,7 +6,7 @@ use mathlib.Core.Bool.{Bool, _&&_}
 use mathlib.Core.Logic.{⊎-elim}
 use Rattle.scope.specs.Runs.{bit}
 use Rattle.grouping.specs.Table.{Shows}
-use Rattle.grouping.proofs.Table.{along, down, along-start, along-taken, along-left, down-start, down-taken, down-left, down-end}
+use Rattle.grouping.proofs.Table.{along, down, along-start, along-chosen, down-start, down-taken, down-left, down-end}
 use Rattle.grouping.proofs.clustering.link.Statement.{statement}
 use Rattle.grouping.proofs.clustering.link.Tie as tie
 
@@ -31,8 +31,17 @@ holds-requires c κs = omega arith
 loop2-holds : tie.Need-loop2-holds Inv-loop2 μ-loop2 Inv-loop μ-loop
 loop2-holds c = (omega arith, λ f s. along-start _ f (bit _) _ s)
 
-holds-requires-2 : tie.Need-holds-requires-2 Inv-loop2 μ-loop2 Inv-loop μ-loop
-holds-requires-2 c κs = omega arith
+mul-marked : tie.Need-mul-marked Inv-loop2 μ-loop2 Inv-loop μ-loop
+mul-marked c = omega arith
+
+index-1-marked : tie.Need-index-1-marked Inv-loop2 μ-loop2 Inv-loop μ-loop
+index-1-marked c = omega arith
+
+index-2-marked : tie.Need-index-2-marked Inv-loop2 μ-loop2 Inv-loop μ-loop
+index-2-marked c = omega arith
+
+marked-requires : tie.Need-marked-requires Inv-loop2 μ-loop2 Inv-loop μ-loop
+marked-requires c κs = omega arith
 
 mul-m : tie.Need-mul-m Inv-loop2 μ-loop2 Inv-loop μ-loop
 mul-m c = omega arith
@@ -53,14 +62,7 @@ loop2-again : tie.Need-loop2-again Inv-loop2 μ-loop2 Inv-loop μ-loop
 loop2-again c =
     let q = c .before .before in
     let l = q .before .before .before .before in
-    let e = sym (c .before .holds2 .ensures) in (
-      omega arith,
-      λ f s. let d = q .before .loop2 .inv .1 f s in
-          ⊎-elim
-          (λ w. rw (w .1) (along-taken _ f (bit _) _ _ (l .loop-test .taken) (q .loop2-test .taken) (e ∙ w .0 .taken) d))
-          (λ w. rw (w .1) (along-left _ f (bit _) _ _ (e ∙ w .0 .left) d))
-          (c .if2 .came),
-    )
+    (omega arith, λ f s. along-chosen _ f (bit _) _ _ _ (l .loop-test .taken) (q .loop2-test .taken) (c .marked .ensures) (q .before .loop2 .inv .1 f s))
 
 add-i : tie.Need-add-i Inv-loop2 μ-loop2 Inv-loop μ-loop
 add-i c = omega arith
@@ -95,7 +97,10 @@ link-spec =
     loop-holds
     holds-requires
     loop2-holds
-    holds-requires-2
+    mul-marked
+    index-1-marked
+    index-2-marked
+    marked-requires
     mul-m
     index-1-m
     index-2-m

@@ -1,12 +1,12 @@
 -- `arranged` meets its contract: each step has its equation, and together they are the arrangement.
 use native.Mathlib.Omega.{arith}
-use native.Mathlib.Nat.{le-trans}
+use native.Mathlib.Nat.{le-trans, lt-of-lt-of-le}
 use Prim.Native.Nat.{_≤_}
 use lib.ListN.{length}
 use Rattle.grouping.specs.Answers.{grouped}
 use borrow.Author.Needs.{needs}
 use Rattle.intake.specs.Limits.{maxCircles}
-use Rattle.layout.proofs.Arrangement.{arranged-first, few-clusters}
+use Rattle.layout.proofs.Arrangement.{arranged-first, few-clusters, numbers-below}
 use Rattle.layout.proofs.normalize.arranged.Statement.{statement}
 use Rattle.layout.proofs.normalize.arranged.Tie as tie
 
@@ -39,7 +39,8 @@ pack-clusters-requires : tie.Need-pack-clusters-requires
 pack-clusters-requires c κs =
     let f = c .before .before .before .before in
     let s = f .before .before .before .before .before .before in
-    (s .pre .0, le-trans (few-clusters _ _ _ _ _ (s .pre .1) (f .find-clusters-from-exclusive-regions .ensures .0)) (s .pre .0))
+    let is = f .find-clusters-from-exclusive-regions .ensures .0 in
+    (s .pre .0, le-trans (few-clusters _ _ _ _ _ (s .pre .1) is) (s .pre .0), λ i h. lt-of-lt-of-le (numbers-below _ _ _ _ _ (s .pre .1) is i h) (s .pre .0))
 
 center-layout-requires : tie.Need-center-layout-requires
 center-layout-requires c κs = search needs
