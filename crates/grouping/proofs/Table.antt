@@ -13,7 +13,7 @@ use borrow.Author.Tests.{lt-ltb, le-ltb, eq-eqb, ne-eqb}
 use Rattle.scope.specs.Closure.{Marks, at, marked, pass, passes, closure}
 use Rattle.promises.proofs.Cases.{tested, is-true, is-false}
 use Rattle.promises.proofs.Marks.{at-marked}
-use Rattle.grouping.specs.Table.{cell, mark, Shows}
+use Rattle.grouping.specs.Table.{cell, mark, Shows, Row}
 
 -- ---- reading
 
@@ -107,9 +107,15 @@ module _ (n : ℕ) (f : ℕ → ℕ → Bool) (p : ℕ → Bool) where
   pub along-left : (i j : ℕ) {m : List (List ℕ)} → p j ≡ false → Shows n m (along f p i j) → Shows n m (along f p i (j + 1))
   along-left i j t s = shows-same (along f p i (j + 1)) (λ a b ha hb. along-skip i j a b t) s
 
-  -- a mark if the column passes, and what stood there if not
-  pub along-chosen : (i j v : ℕ) {m : List (List ℕ)} → i < n → j < n → v ≡ cond (p j) 1 (cell m i j) → Shows n m (along f p i j) → Shows n (put m i j v) (along f p i (j + 1))
-  along-chosen i j v {m} hi hj e s =
+  by-column : (b : Bool) (c v x : ℕ) → c ≡ mark b → v ≡ cond (eqb c 0) x 1 → v ≡ cond b 1 x
+  by-column true c v x e h = rw e at h
+  by-column false c v x e h = rw e at h
+
+  -- a mark where the column has one, and what stood there where it has none
+  pub along-chosen : (i j c v : ℕ) {m : List (List ℕ)} → i < n → j < n → c ≡ mark (p j) → v ≡ cond (eqb c 0) (cell m i j) 1 → Shows n m (along f p i j)
+      → Shows n (put m i j v) (along f p i (j + 1))
+  along-chosen i j c v {m} hi hj k h s =
+      let e = by-column (p j) c v (cell m i j) k h in
       elim (tested (p j)) [
         | yes t ↦ rw (e, is-true (p j) t) (along-taken i j hi hj (is-true (p j) t) s)
         | no t ↦ rw (e, is-false (p j) t, set-getD (getD m i []) j 0, set-getD m i []) (along-left i j (is-false (p j) t) s)
@@ -196,3 +202,35 @@ none-passed n t s = s
 pub all-passed : (n k : ℕ) (t : Marks) {m : List (List ℕ)} → k ≤ n → n ≤ k → Shows n m (at (passes n k t)) → Shows n m (at (closure n t))
 unfolding closure
 all-passed n k t {m} h g s = let e : k ≡ n = omega arith in subst (λ (x : ℕ). Shows n m (at (passes n x t))) e s
+
+-- ---- one row, cell by cell
+
+-- the first j cells are marked where p passes; the rest is still 0
+pub record RowSoFar (room j : ℕ) (p : ℕ → Bool) (row : List ℕ) : Type 0 where
+  pub long : length row ≡ room
+  pub first : Row j row p
+  pub rest : (k : ℕ) → j ≤ k → k < room → getD row k 0 ≡ 0
+
+module _ (room : ℕ) (p : ℕ → Bool) where
+  pub row-none : RowSoFar room 0 p (replicate room 0)
+  row-none = record { long = length-replicate room 0; first = λ k h. absurd (omega arith); rest = λ k l h. getD-replicate room k 0 0 h }
+
+  pub row-taken : (j : ℕ) (row : List ℕ) → j < room → p j ≡ true → RowSoFar room j p row → RowSoFar room (j + 1) p (set row j 1)
+  row-taken j row h t s =
+      record {
+        long = rw (length-set row j 1) (s .long);
+        first = λ k l.
+            elim (ℕ-discrete k j) [
+              | yes e ↦ rw (e, getD-set-same row j 1 0 (omega (arith, s .long)), t)
+              | no e ↦ rw (getD-set-other row j k 1 0 e) (s .first k (omega arith))
+            ];
+        rest = λ k l g. let other : k ≡ j → ⊥ = λ e. absurd (omega arith) in rw (getD-set-other row j k 1 0 other) (s .rest k (omega arith) g);
+      }
+
+  pub row-left : (j : ℕ) (row : List ℕ) → j < room → p j ≡ false → RowSoFar room j p row → RowSoFar room (j + 1) p row
+  row-left j row h t s =
+      record {
+        long = s .long;
+        first = λ k l. elim (ℕ-discrete k j) [ yes e ↦ rw (e, t) (s .rest j (omega arith) h) | no e ↦ s .first k (omega arith) ];
+        rest = λ k l g. s .rest k (omega arith) g;
+      }

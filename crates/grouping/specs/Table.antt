@@ -17,3 +17,7 @@ pub record Shows (n : ℕ) (m : List (List ℕ)) (f : ℕ → ℕ → Bool) : Ty
   pub rows : n ≤ length m
   pub columns : (i : ℕ) → i < n → n ≤ length (getD m i [])
   pub cells : (i j : ℕ) → i < n → j < n → cell m i j ≡ mark (f i j)
+
+-- the same of one row of n cells
+abbrev pub Row : ℕ → List ℕ → (ℕ → Bool) → Type 0
+Row n row p = (j : ℕ) → j < n → getD row j 0 ≡ mark (p j)

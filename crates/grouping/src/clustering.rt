@@ -14,7 +14,7 @@ ghost use Rattle.promises.proofs.Closure.{Equivalence};
 ghost use Rattle.promises.proofs.AfterRefusal.{refusedGrouping};
 ghost use Rattle.grouping.specs.Answers.{grouped, NumbersByChains, firstGrouping};
 ghost use Rattle.intake.specs.Limits.{maxCircles};
-ghost use Rattle.grouping.specs.Table.{Shows};
+ghost use Rattle.grouping.specs.Table.{Row, Shows};
 use geometry::circle::overlap;
 use intake::lent::Loaded;
 use intake::lent::load;
@@ -150,12 +150,13 @@ fn link(m: &mut Table, n: usize, mask: u64)
     requires { ⌜ n ≤ maxCircles ⌝ }
     ensures { λ _. ⌜ ((f : ℕ → ℕ → Bool) → Shows n (now (m .entry)) f → Shows n (now (m .exit)) (λ i j. f i j || (bit mask i && bit mask j))) ⌝ }
 {
+    let row = row_of(mask);
     let mut i: usize = 0;
     while i < n {
         if holds(mask, i) {
             let mut j: usize = 0;
             while j < n {
-                m[i][j] = marked(m[i][j], mask, j);
+                m[i][j] = marked(m[i][j], row[j]);
                 j += 1;
             }
         }
@@ -163,11 +164,26 @@ fn link(m: &mut Table, n: usize, mask: u64)
     }
 }
 
-// A cell of a row that is in the region: 1 where the column is too. A choice of values, so that no jump has to be guessed.
-fn marked(cell: u8, mask: u64, j: usize) -> u8
-    ensures { λ r. ⌜ r ≡ cond (bit mask j) 1 cell ⌝ }
+// A mark for each circle that the region holds.
+fn row_of(mask: u64) -> [u8; MAX_CIRCLES]
+    ensures { λ r. ⌜ Row maxCircles r (bit mask) ⌝ }
 {
-    if holds(mask, j) { 1 } else { cell }
+    let mut row = [0u8; MAX_CIRCLES];
+    let mut j: usize = 0;
+    while j < MAX_CIRCLES {
+        if holds(mask, j) {
+            row[j] = 1;
+        }
+        j += 1;
+    }
+    row
+}
+
+// A mark where the column has one. A choice of values, so that no jump has to be guessed.
+fn marked(cell: u8, column: u8) -> u8
+    ensures { λ r. ⌜ r ≡ cond (eqb column 0) cell 1 ⌝ }
+{
+    if column == 0 { cell } else { 1 }
 }
 
 // Finite and not at most the tolerance. An infinity or a NaN less itself is a NaN.

@@ -4,6 +4,7 @@ use native.Mathlib.Omega.{arith}
 use mathlib.Core.Path.{sym, _∙_}
 use mathlib.Core.Bool.{Bool, _&&_}
 use mathlib.Core.Logic.{⊎-elim}
+use borrow.Author.Needs.{needs}
 use Rattle.scope.specs.Runs.{bit}
 use Rattle.grouping.specs.Table.{Shows}
 use Rattle.grouping.proofs.Table.{along, down, along-start, along-chosen, down-start, down-taken, down-left, down-end}
@@ -11,16 +12,19 @@ use Rattle.grouping.proofs.clustering.link.Statement.{statement}
 use Rattle.grouping.proofs.clustering.link.Tie as tie
 
 abbrev Inv-loop2 : tie.InvT-loop2
-Inv-loop2 m₀ n mask i j₀ m j = (j ≤ n) × ((f : ℕ → ℕ → Bool) → Shows n m₀ f → Shows n m (along f (bit mask) i j))
+Inv-loop2 m₀ n mask row i j₀ m j = (j ≤ n) × ((f : ℕ → ℕ → Bool) → Shows n m₀ f → Shows n m (along f (bit mask) i j))
 
 abbrev μ-loop2 : tie.MeasureT-loop2
-μ-loop2 m₀ n mask i j₀ m j = n - j
+μ-loop2 m₀ n mask row i j₀ m j = n - j
 
 abbrev Inv-loop : tie.InvT-loop
-Inv-loop m₀ n mask i₀ m i = (i ≤ n) × ((f : ℕ → ℕ → Bool) → Shows n m₀ f → Shows n m (down f (λ a b. bit mask a && bit mask b) i))
+Inv-loop m₀ n mask row i₀ m i = (i ≤ n) × ((f : ℕ → ℕ → Bool) → Shows n m₀ f → Shows n m (down f (λ a b. bit mask a && bit mask b) i))
 
 abbrev μ-loop : tie.MeasureT-loop
-μ-loop m₀ n mask i₀ m i = n - i
+μ-loop m₀ n mask row i₀ m i = n - i
+
+row-of-requires : tie.Need-row-of-requires Inv-loop2 μ-loop2 Inv-loop μ-loop
+row-of-requires c κs = search needs
 
 loop-holds : tie.Need-loop-holds Inv-loop2 μ-loop2 Inv-loop μ-loop
 loop-holds c = (omega arith, λ f s. down-start _ f (λ a b. bit _ a && bit _ b) s)
@@ -39,6 +43,9 @@ index-1-marked c = omega arith
 
 index-2-marked : tie.Need-index-2-marked Inv-loop2 μ-loop2 Inv-loop μ-loop
 index-2-marked c = omega arith
+
+array-read-marked : tie.Need-array-read-marked Inv-loop2 μ-loop2 Inv-loop μ-loop
+array-read-marked c = omega arith
 
 marked-requires : tie.Need-marked-requires Inv-loop2 μ-loop2 Inv-loop μ-loop
 marked-requires c κs = omega arith
@@ -62,7 +69,7 @@ loop2-again : tie.Need-loop2-again Inv-loop2 μ-loop2 Inv-loop μ-loop
 loop2-again c =
     let q = c .before .before in
     let l = q .before .before .before .before in
-    (omega arith, λ f s. along-chosen _ f (bit _) _ _ _ (l .loop-test .taken) (q .loop2-test .taken) (c .marked .ensures) (q .before .loop2 .inv .1 f s))
+    (omega arith, λ f s. along-chosen _ f (bit _) _ _ _ _ (l .loop-test .taken) (q .loop2-test .taken) (l .before .before .row-of .ensures (q .before .loop2 .j) (omega arith)) (c .marked .ensures) (q .before .loop2 .inv .1 f s))
 
 add-i : tie.Need-add-i Inv-loop2 μ-loop2 Inv-loop μ-loop
 add-i c = omega arith
@@ -73,7 +80,7 @@ loop-less c = omega arith
 loop-again : tie.Need-loop-again Inv-loop2 μ-loop2 Inv-loop μ-loop
 loop-again c =
     let e = sym (c .before .holds .ensures) in
-    let mask = c .before .before .before .before .args .mask in
+    let mask = c .before .before .before .before .before .args .mask in
     let g : ℕ → ℕ → Bool = λ a b. bit mask a && bit mask b in (
       omega arith,
       λ f s. let d = c .before .before .before .loop .inv .1 f s in
@@ -94,12 +101,14 @@ link-spec =
     μ-loop2
     Inv-loop
     μ-loop
+    row-of-requires
     loop-holds
     holds-requires
     loop2-holds
     mul-marked
     index-1-marked
     index-2-marked
+    array-read-marked
     marked-requires
     mul-m
     index-1-m
