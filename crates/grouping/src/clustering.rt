@@ -150,7 +150,7 @@ fn link(m: &mut Table, n: usize, mask: u64)
     requires { ⌜ n ≤ maxCircles ⌝ }
     ensures { λ _. ⌜ ((f : ℕ → ℕ → Bool) → Shows n (now (m .entry)) f → Shows n (now (m .exit)) (λ i j. f i j || (bit mask i && bit mask j))) ⌝ }
 {
-    let row = row_of(mask);
+    let row = row_of(mask, n);
     let mut i: usize = 0;
     while i < n {
         if holds(mask, i) {
@@ -164,13 +164,14 @@ fn link(m: &mut Table, n: usize, mask: u64)
     }
 }
 
-// A mark for each circle that the region holds.
-fn row_of(mask: u64) -> [u8; MAX_CIRCLES]
-    ensures { λ r. ⌜ Row maxCircles r (bit mask) ⌝ }
+// A mark for each of n circles that the region holds.
+fn row_of(mask: u64, n: usize) -> [u8; MAX_CIRCLES]
+    requires { ⌜ n ≤ maxCircles ⌝ }
+    ensures { λ r. ⌜ Row n r (bit mask) ⌝ }
 {
     let mut row = [0u8; MAX_CIRCLES];
     let mut j: usize = 0;
-    while j < MAX_CIRCLES {
+    while j < n {
         if holds(mask, j) {
             row[j] = 1;
         }

@@ -85,6 +85,9 @@ known-at ps i p e = rw (← e)
 pub none-at : (ps : List Parent) (i : ℕ) → found.None ≡ getD ps i found.None → none ≡ parentAt ps i
 none-at ps i e = rw (← e)
 
+pub none-found : (f : Parent) → found.None ≡ f → parent f ≡ none
+none-found f e = rw (← e)
+
 pub is-parent-of : (p q : ℕ) (f : Parent) → found.Of q ≡ f → eqb p q ≡ isParent p (parent f)
 unfolding isParent
 is-parent-of p q f e = rw (← e)

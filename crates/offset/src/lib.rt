@@ -1,7 +1,8 @@
 // A circle that lies in one other and meets no third could stand anywhere inside it. It is put half-way to the edge:
 // in the middle it would leave its parent a thin ring, with no room for a label.
 ghost use mathlib.Core.Path.{_≡_};
-ghost use mathlib.Core.Bool.{true, not, _&&_};
+ghost use mathlib.Core.Bool.{true, false, not, _&&_};
+ghost use mathlib.Core.Option.{none};
 ghost use mathlib.Core.List.{List};
 ghost use Prim.Native.Nat.{ℕ, _<_, _≤_, _+_, _-_, _^_};
 ghost use lib.Dec.{eqb};
@@ -469,9 +470,21 @@ fn all_offset(circles: [Circle; MAX_CIRCLES], n: usize, masks: &[u64], areas: &[
     let ps = parents(n, masks, areas);
     let mut i: usize = 0;
     while i < n {
-        let t = tried(s, n, ps, i);
-        s = t;
+        if has_parent(ps[i]) {
+            let t = tried(s, n, ps, i);
+            s = t;
+        }
         i += 1;
     }
     s
+}
+
+// Most circles have none, and then nothing need be copied.
+fn has_parent(found: Parent) -> bool
+    ensures { λ r. ⌜ (r ≡ false → parent found ≡ none) ⌝ }
+{
+    match found {
+        Parent::Of(_) => true,
+        Parent::None => false,
+    }
 }

@@ -11,13 +11,13 @@ use Rattle.grouping.proofs.clustering.row_of.Statement.{statement}
 use Rattle.grouping.proofs.clustering.row_of.Tie as tie
 
 abbrev Inv-loop : tie.InvT-loop
-Inv-loop mask row₀ j₀ row j = (j ≤ maxCircles) × RowSoFar maxCircles j (bit mask) row
+Inv-loop mask n row₀ j₀ row j = (j ≤ n) × (n ≤ maxCircles) × RowSoFar maxCircles j (bit mask) row
 
 abbrev μ-loop : tie.MeasureT-loop
-μ-loop mask row₀ j₀ row j = maxCircles - j
+μ-loop mask n row₀ j₀ row j = n - j
 
 loop-holds : tie.Need-loop-holds Inv-loop μ-loop
-loop-holds c = (omega arith, row-none maxCircles (bit _))
+loop-holds c = (omega arith, omega arith, row-none maxCircles (bit _))
 
 holds-requires : tie.Need-holds-requires Inv-loop μ-loop
 holds-requires c κs = search needs
@@ -37,17 +37,18 @@ loop-again c =
     let l = q .before .loop in
     let e = sym (c .before .holds .ensures) in (
       omega arith,
+      omega arith,
       ⊎-elim
-          (λ w. rw (w .1) (row-taken maxCircles (bit _) (l .j) (l .row) (q .loop-test .taken) (e ∙ w .0 .taken) (l .inv .1)))
-          (λ w. rw (w .1) (row-left maxCircles (bit _) (l .j) (l .row) (q .loop-test .taken) (e ∙ w .0 .left) (l .inv .1)))
+          (λ w. rw (w .1) (row-taken maxCircles (bit _) (l .j) (l .row) (omega arith) (e ∙ w .0 .taken) (l .inv .2)))
+          (λ w. rw (w .1) (row-left maxCircles (bit _) (l .j) (l .row) (omega arith) (e ∙ w .0 .left) (l .inv .2)))
           (c .if1 .came),
     )
 
 returns : tie.Need-returns Inv-loop μ-loop
 returns c =
     let l = c .before .loop in
-    let all : l .j ≡ maxCircles = omega arith in
-    rw all at (l .inv .1) .first
+    let all : l .j ≡ c .before .before .args .n = omega arith in
+    rw all at (l .inv .2) .first
 
 pub row-of-spec : {M : Type 1} → statement M
 row-of-spec =
