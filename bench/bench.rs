@@ -194,6 +194,10 @@ fn main() {
                 black_box(root);
             }
         },
-        || numbers.iter().for_each(|&x| drop(black_box(black_box(x).sqrt()))),
+        || {
+            for &x in &numbers {
+                black_box(black_box(x).sqrt());
+            }
+        },
     );
 }
