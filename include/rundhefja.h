@@ -4,10 +4,13 @@
  * pointer and how many numbers it has; a pointer to an empty list may be anything but NULL. No call keeps a pointer, allocates, or ends the program. Lists that
  * are written may not overlap any other list of the same call.
  *
- * Refusals: 0 none; 1 more than 64 circles or boxes; 2 more than 2,048 regions, or a card file of more than 65,536 bytes; 3 a coordinate that is not finite or
+ * Refusals: 0 none; 1 more than 64 circles or boxes; 2 more than 2,048 regions, or an input of more than 65,536 bytes; 3 a coordinate that is not finite or
  * above 2^20 in size; 4 a radius that is not finite or outside 2^-20 to 2^20; 5 masks that do not rise strictly; 6 a factor outside 0 to 1; 7 a side outside 0
  * to 2^23; 8 a padding outside 0 to 2^26; 9 a tag unknown or out of place; 10 a field's wrong length; 11 a file that ends inside a field; 12 the root of NaN or of
- * a number below 0; 13 lists of masks and areas of unequal length. The lowest that applies comes back, but 13 before 2.
+ * a number below 0; 13 lists of masks and areas of unequal length. The lowest that applies comes back, but 13 before 2; a card file is checked front to back, and its
+ * values after that.
+ *
+ * A call needs up to 128 KB of stack; rundhefja_card_text needs most.
  */
 #ifndef RUNDHEFJA_H
 #define RUNDHEFJA_H

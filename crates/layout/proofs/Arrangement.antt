@@ -2,9 +2,8 @@
 -- Cluster numbers that are filled up with 0 name the same clusters.
 use Prim.Native.Nat.{ℕ, zero, suc, _≤_, _<_}
 use native.Mathlib.Nat.{lt-of-lt-of-le}
-use native.Mathlib.Omega.{arith}
 use mathlib.Core.Path.{_≡_, refl, sym, ap, _∙_, fun-ext}
-use mathlib.Core.Bool.{Bool, cond}
+use mathlib.Core.Bool.{Bool}
 use mathlib.Core.List.{List, _++_}
 use lib.Dec.{eqb, ltb}
 use lib.Ieee.{Float}
@@ -14,7 +13,7 @@ use borrow.Author.Tests.{eq-eqb}
 use Rattle.shapes.specs.declared.geometry.shapes.circle.Circle.{Circle}
 use Rattle.shapes.specs.declared.geometry.shapes.rectangle.Rectangle.{Rectangle}
 use Rattle.scope.specs.Numbers.{golden}
-use Rattle.scope.specs.Runs.{inTurn, tab, filled}
+use Rattle.scope.specs.Runs.{inTurn, filled}
 use Rattle.scope.specs.Limits.{circleCap}
 use Rattle.scope.specs.Links.{Region, regions}
 use Rattle.scope.specs.Refusals.{regionsRefusal}
@@ -31,7 +30,6 @@ use Rattle.promises.proofs.Cluster.{rotate-length}
 use Rattle.promises.proofs.AfterOffset.{offset-length}
 use Rattle.promises.proofs.Centred.{centred-length}
 use Rattle.promises.proofs.AfterRefusal.{area-grouping-answers}
-use Rattle.promises.proofs.Numbering.{Numbering}
 use Rattle.promises.proofs.Clusters.{clusters-numbering}
 use Rattle.intake.specs.First.{onFirst}
 use Rattle.intake.proofs.InPlace.{either-length}

@@ -2,18 +2,17 @@
 use Prim.Native.Nat.{ℕ, _+_, _≤_, _<_}
 use native.Mathlib.Omega.{arith}
 use native.Mathlib.Numerals.{add-one}
-use mathlib.Core.Path.{_≡_, refl, sym, ap, _∙_}
-use mathlib.Core.Bool.{cond, true, false}
-use mathlib.Core.List.{List, _++_}
+use mathlib.Core.Path.{_≡_, refl, sym, ap}
+use mathlib.Core.List.{List}
 use lib.Ieee.{Float, binary64}
-use lib.ListN.{length, getD, take, drop, replicate, take-append-drop}
+use lib.ListN.{length, getD, take, take-append-drop}
 use lib.Seq.{length-take-le, getD-take, take-at}
 use borrow.Author.Tests.{lt-ltb, le-ltb}
 use Rattle.rounding.specs.Root.{root}
 use Rattle.shapes.specs.declared.geometry.shapes.circle.Circle.{Circle}
 use Rattle.shapes.specs.declared.geometry.shapes.rectangle.Rectangle.{Rectangle}
 use Rattle.scope.specs.Numbers.{_+ᶠ_, _*ᶠ_, nought}
-use Rattle.scope.specs.Runs.{tab, gather, always, filled}
+use Rattle.scope.specs.Runs.{gather, always, filled}
 use Rattle.scope.specs.Links.{circle}
 use Rattle.scope.specs.Packing.{noRectangle, rectangle, rectangleArea, packed}
 use Rattle.scope.specs.Gauge.{inCluster}

@@ -1,5 +1,5 @@
 -- The answer is the one that `scope` defines from document 01's table: 12 for NaN and below 0, and only for these.
-use Prim.Native.Nat.{ℕ, zero, suc, _+_, _*_}
+use Prim.Native.Nat.{zero, suc, _+_, _*_}
 use native.Mathlib.Nat.{mul-pos}
 use native.Mathlib.Omega.{arith}
 use mathlib.Core.Path.{_≡_, refl, sym, ap, _∙_}
@@ -10,7 +10,7 @@ use lib.Ieee.Fits.{up-pos}
 use borrow.Author.Tests.{lt-ltb, le-ltb}
 use Rattle.rounding.specs.Root.{root}
 use Rattle.scope.specs.Numbers.{_<ᶠ_, nought}
-use Rattle.scope.specs.Refusals.{Answer, causes, causeHolds, first, refusal}
+use Rattle.scope.specs.Refusals.{causes, causeHolds, first, refusal}
 use Rattle.scope.specs.Refusals as scope
 use Rattle.scope.specs.Distance.{rootAnswer}
 use Rattle.root.specs.declared.answers.Root.{Root}

@@ -1,14 +1,7 @@
 -- `card_text` meets its contract: too long, refused, or laid out.
 use borrow.Author.Needs.{needs}
-use native.Mathlib.Omega.{arith}
-use mathlib.Core.Path.{_≡_, sym, ap, _∙_}
-use lib.ListN.{length, take}
-use Rattle.scope.specs.Runs.{filled}
-use Rattle.scope.specs.Limits.{circleCap, inputCap}
-use Rattle.scope.specs.Print.{refusedText}
-use Rattle.layout.specs.Answers.{laidOut}
-use Rattle.card_file.proofs.Filling.{used-length}
-use Rattle.card_file.proofs.Texts.{laid-out-prints, long-text, refusal-text, given-text}
+use Rattle.scope.specs.Limits.{inputCap}
+use Rattle.card_file.proofs.Texts.{long-text, refusal-text, given-text}
 use Rattle.card_file.proofs.card_text.Statement.{statement}
 use Rattle.card_file.proofs.card_text.Tie as tie
 

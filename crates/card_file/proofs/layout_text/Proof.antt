@@ -1,14 +1,12 @@
 -- `layout_text` meets its contract: what is printed of the layout is what the definition prints.
 use borrow.Author.Needs.{needs}
 use native.Mathlib.Omega.{arith}
-use mathlib.Core.Path.{_≡_, sym, ap, _∙_}
-use lib.ListN.{length, take}
-use Rattle.scope.specs.Runs.{filled}
-use Rattle.scope.specs.Limits.{circleCap, inputCap}
-use Rattle.scope.specs.Print.{refusedText}
+use mathlib.Core.Path.{sym}
+use lib.ListN.{take}
+use Rattle.scope.specs.Limits.{circleCap}
 use Rattle.layout.specs.Answers.{laidOut}
 use Rattle.card_file.proofs.Filling.{used-length}
-use Rattle.card_file.proofs.Texts.{laid-out-prints, long-text, refusal-text, given-text}
+use Rattle.card_file.proofs.Texts.{laid-out-prints}
 use Rattle.card_file.proofs.layout_text.Statement.{statement}
 use Rattle.card_file.proofs.layout_text.Tie as tie
 

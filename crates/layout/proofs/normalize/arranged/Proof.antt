@@ -5,7 +5,6 @@ use Prim.Native.Nat.{_≤_}
 use lib.ListN.{length}
 use Rattle.grouping.specs.Answers.{grouped}
 use borrow.Author.Needs.{needs}
-use Rattle.intake.specs.Limits.{maxCircles}
 use Rattle.layout.proofs.Arrangement.{arranged-first, few-clusters, numbers-below}
 use Rattle.layout.proofs.normalize.arranged.Statement.{statement}
 use Rattle.layout.proofs.normalize.arranged.Tie as tie

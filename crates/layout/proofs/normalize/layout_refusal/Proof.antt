@@ -1,5 +1,4 @@
 -- `layout_refusal` meets its contract: three numbers decide.
-use mathlib.Core.Path.{_∙_}
 use borrow.Author.Needs.{needs}
 use Rattle.scope.specs.Limits.{circleCap}
 use Rattle.layout.proofs.LayoutNumber.{numbers-decide}

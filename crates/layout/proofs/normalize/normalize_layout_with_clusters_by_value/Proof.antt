@@ -1,5 +1,5 @@
 -- `normalize_layout_with_clusters_by_value` meets its contract: the refusal, or the arrangement, which keeps its promises since the caller's numbers are f64.
-use mathlib.Core.Path.{_≡_, sym, ap, _∙_}
+use mathlib.Core.Path.{sym, ap, _∙_}
 use borrow.Author.Needs.{needs}
 use Rattle.scope.specs.Limits.{circleCap}
 use Rattle.scope.specs.Layout.{Layout, refusedLayout}
