@@ -1,20 +1,14 @@
 -- A lent list written over from its start, element by element.
-use Prim.Native.Nat.{ℕ, zero, suc, _+_, _<_}
+use Prim.Native.Nat.{ℕ, zero, suc, _+_}
 use native.Mathlib.Omega.{arith}
-use native.Mathlib.Numerals.{add-one}
 use mathlib.Core.Path.{_≡_, refl, sym, ap, _∙_}
-use mathlib.Core.Logic.{_≢_}
 use mathlib.Core.List.{List, [], _∷_, _++_}
-use borrow.Author.Tests.{ne-eqb}
-use lib.ListN.{length, getD, set, take}
-use lib.Seq.{take-suc, length-take-le, take-nil}
-use Rattle.rundhefja.specs.Written.{written, answered}
+use lib.ListN.{length, set}
+use lib.Seq.{take-nil}
+use Rattle.rundhefja.specs.Written.{written}
+use Rattle.rundhefja.proofs.Writing.{nothing-written}
 
 module _ {A : Type 0} where
-  pub none-written : (ys : List A) → ys ≡ written [] ys
-  none-written [] = refl
-  none-written (y ∷ ys) = refl
-
   -- one more element, behind those that are written; past the list's end nothing changes
   pub one-written : (xs ys : List A) (x : A) (n : ℕ) → length xs ≡ n → set (written xs ys) n x ≡ written (xs ++ x ∷ []) ys
   one-written [] [] x zero e = refl
@@ -24,10 +18,6 @@ module _ {A : Type 0} where
   one-written (a ∷ xs) [] x (suc n) e = refl
   one-written (a ∷ xs) (y ∷ ys) x (suc n) e = ap {B = List A} (λ l. a ∷ l) (one-written xs ys x n (omega arith))
 
-  -- the elements of an array in turn
-  pub next-written : (xs ys : List A) (d : A) (i : ℕ) {zs : List A} {x : A} → i < length xs → zs ≡ written (take i xs) ys → x ≡ getD xs i d → set zs i x ≡ written (take (i + 1) xs) ys
-  next-written xs ys d i h e f = rw (e, f, add-one, take-suc xs i d h) (one-written (take i xs) ys (getD xs i d) i (length-take-le i xs (omega arith)))
-
   pub written-length : (xs ys : List A) → length (written xs ys) ≡ length ys
   written-length [] [] = refl
   written-length [] (y ∷ ys) = refl
@@ -36,7 +26,7 @@ module _ {A : Type 0} where
 
   -- one, two and four elements
   pub first-written : (a : A) (ys : List A) {ys₁ : List A} → ys₁ ≡ set ys 0 a → ys₁ ≡ written (a ∷ []) ys
-  first-written a ys e = e ∙ ap (λ (l : List A). set l 0 a) (none-written ys) ∙ one-written [] ys a 0 refl
+  first-written a ys e = e ∙ ap (λ (l : List A). set l 0 a) (nothing-written ys) ∙ one-written [] ys a 0 refl
 
   pub two-written : (a b : A) (ys : List A) {ys₁ ys₂ : List A} → ys₁ ≡ set ys 0 a → ys₂ ≡ set ys₁ 1 b → ys₂ ≡ written (a ∷ b ∷ []) ys
   two-written a b ys e f = f ∙ ap (λ (l : List A). set l 1 b) (first-written a ys e) ∙ one-written (a ∷ []) ys b 1 refl
@@ -47,7 +37,3 @@ module _ {A : Type 0} where
       let two = two-written a b ys e f in
       let three = g ∙ ap (λ (l : List A). set l 2 c) two ∙ one-written (a ∷ b ∷ []) ys c 2 refl in
       h ∙ ap (λ (l : List A). set l 3 d) three ∙ one-written (a ∷ b ∷ c ∷ []) ys d 3 refl
-
-  -- nothing is written after a refusal
-  pub untouched : (k : ℕ) (xs ys : List A) → k ≢ 0 → ys ≡ answered k xs ys
-  untouched k xs ys h = rw (ne-eqb k 0 h)

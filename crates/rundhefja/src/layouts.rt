@@ -11,9 +11,10 @@ ghost use Rattle.intake.specs.Limits.{maxCircles};
 ghost use Rattle.intake.specs.Lent.{loaded};
 ghost use Rattle.rundhefja.specs.Written.{written, answered};
 ghost use Rattle.rundhefja.specs.Flat.{circlesOf, numbersOf, sidesOf, factsOf, flatLayout, flatContained};
-use crate::lists::put_byte;
 use crate::lists::put_float;
 use crate::lists::put_word;
+use crate::outputs::write_float;
+use crate::outputs::write_numbers;
 use intake::lent::Loaded;
 use intake::lent::blank;
 use intake::limits::MAX_CIRCLES;
@@ -56,9 +57,9 @@ pub extern "C" fn rundhefja_layout(
     let rewritten = laid.circles;
     store_triples(circles, rewritten, n);
     let clusters = result.numbers;
-    store_numbers(numbers, clusters, n);
+    write_numbers(numbers, clusters, n);
     store_facts(facts, result.count as u64, result.moved);
-    put_float(padding, 0, result.padding);
+    write_float(padding, result.padding);
     0
 }
 
@@ -160,15 +161,4 @@ fn store_facts(list: &mut [u64], count: u64, moved: u64)
 {
     put_word(list, 0, count);
     put_word(list, 1, moved);
-}
-
-fn store_numbers(list: &mut [u8], clusters: [u8; MAX_CIRCLES], n: usize)
-    requires { ⌜ n ≤ maxCircles ⌝ }
-    ensures { λ _. ⌜ now (list .exit) ≡ written (take n clusters) (now (list .entry)) ⌝ }
-{
-    let mut i: usize = 0;
-    while i < n {
-        put_byte(list, i, clusters[i]);
-        i += 1;
-    }
 }

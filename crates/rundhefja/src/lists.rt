@@ -17,11 +17,3 @@ pub(crate) fn put_word(list: &mut [u64], i: usize, word: u64)
         list[i] = word;
     }
 }
-
-pub(crate) fn put_byte(list: &mut [u8], i: usize, byte: u8)
-    ensures { λ _. ⌜ now (list .exit) ≡ set (now (list .entry)) i byte ⌝ }
-{
-    if i < list.len() {
-        list[i] = byte;
-    }
-}

@@ -45,17 +45,6 @@ pub fn write_floats(out: &mut [f64], floats: &[f64])
     }
 }
 
-pub fn write_words(out: &mut [u64], words: &[u64])
-    ensures { λ _. ⌜ now (out .exit) ≡ written (now (words .entry)) (now (out .entry)) ⌝ }
-{
-    let end = smaller(words.len(), out.len());
-    let mut i: usize = 0;
-    while i < end {
-        out[i] = words[i];
-        i += 1;
-    }
-}
-
 // The numbers of the first n circles.
 pub fn write_numbers(out: &mut [u8], numbers: [u8; MAX_CIRCLES], n: usize)
     ensures { λ _. ⌜ now (out .exit) ≡ written (take n numbers) (now (out .entry)) ⌝ }

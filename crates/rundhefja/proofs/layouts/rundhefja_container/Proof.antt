@@ -7,7 +7,7 @@ use Rattle.shapes.specs.declared.geometry.shapes.rectangle.Rectangle.{Rectangle
 use Rattle.shapes.specs.declared.geometry.shapes.circle.Circle.{Circle}
 use Rattle.rundhefja.specs.Written.{written}
 use Rattle.rundhefja.specs.Flat.{numbersOf, sidesOf}
-use Rattle.rundhefja.proofs.Putting.{untouched}
+use Rattle.rundhefja.proofs.Writing.{kept-if-refused}
 use Rattle.rundhefja.proofs.ContainerAnswer.{same-refusal, same-container, refused-circles, few-circles, same-circles}
 use Rattle.rundhefja.proofs.layouts.rundhefja_container.Statement.{statement}
 use Rattle.rundhefja.proofs.layouts.rundhefja_container.Tie as tie
@@ -31,7 +31,7 @@ returns c =
     let lent = load .load-triples .ensures in
     let answer = called .normalize-layout-with-container-by-value .ensures in (
       same-refusal entry container lent answer,
-      (refused-circles entry container lent answer (c .if1 .taken), (λ h. refl, untouched _ _ _ (c .if1 .taken))),
+      (refused-circles entry container lent answer (c .if1 .taken), (λ h. refl, kept-if-refused _ _ _ (c .if1 .taken))),
     )
 
 store-triples-requires : tie.Need-store-triples-requires

@@ -8,7 +8,7 @@ use Rattle.shapes.specs.declared.geometry.shapes.circle.Circle.{Circle}
 use Rattle.scope.specs.Layout.{Result}
 use Rattle.rundhefja.specs.Written.{written}
 use Rattle.rundhefja.specs.Flat.{circlesOf, numbersOf, factsOf}
-use Rattle.rundhefja.proofs.Putting.{untouched, first-written}
+use Rattle.rundhefja.proofs.Writing.{kept-if-refused}
 use Rattle.rundhefja.proofs.LayoutAnswer.{same-result, refused-circles, same-count, few-circles, same-circles, promises-kept}
 use Rattle.rundhefja.proofs.layouts.rundhefja_layout.Statement.{statement}
 use Rattle.rundhefja.proofs.layouts.rundhefja_layout.Tie as tie
@@ -33,7 +33,7 @@ returns c =
       ap (λ (r : Result). r .refusal) same,
       (
         refused-circles (s .circles .now) (s .factor) (s .masks .now) (s .areas .now) lent answer (c .if1 .taken),
-        (λ h. refl, (untouched _ _ _ (c .if1 .taken), (untouched _ _ _ (c .if1 .taken), (untouched _ _ _ (c .if1 .taken), λ z. absurd (c .if1 .taken z))))),
+        (λ h. refl, (kept-if-refused _ _ _ (c .if1 .taken), (kept-if-refused _ _ _ (c .if1 .taken), (kept-if-refused _ _ _ (c .if1 .taken), λ z. absurd (c .if1 .taken z))))),
       ),
     )
 
@@ -44,19 +44,14 @@ store-triples-requires c κs =
     let s = load .before .before .before .before .before .before .before .before .args in
     few-circles (s .circles .now) (s .factor) (s .masks .now) (s .areas .now) (load .load-triples .ensures) (called .normalize-layout-with-clusters-by-value .ensures .0) (c .before .before .if1 .left)
 
-store-numbers-requires : tie.Need-store-numbers-requires
-store-numbers-requires c κs =
-    let test = c .before .before .before .before .before .before .before in
-    let called = test .before .before .before in
-    let load = called .before .before in
-    let s = load .before .before .before .before .before .before .before .before .args in
-    few-circles (s .circles .now) (s .factor) (s .masks .now) (s .areas .now) (load .load-triples .ensures) (called .normalize-layout-with-clusters-by-value .ensures .0) (test .if1 .left)
+write-numbers-requires : tie.Need-write-numbers-requires
+write-numbers-requires c κs = search needs
 
 store-facts-requires : tie.Need-store-facts-requires
 store-facts-requires c κs = search needs
 
-put-float-requires : tie.Need-put-float-requires
-put-float-requires c κs = search needs
+write-float-requires : tie.Need-write-float-requires
+write-float-requires c κs = search needs
 
 same-length-2 : tie.Need-same-length-2
 same-length-2 c = search needs
@@ -89,11 +84,11 @@ returns-2 c =
         (
           λ h. absurd (h refl),
           (
-            c .before .before .before .before .before .before .before .before .before .before .store-numbers .ensures ∙ ap (λ (k : ℕ). written (take k (called .normalize-layout-with-clusters-by-value .result .result .numbers)) (s .numbers .now)) count ∙ ap (λ (r : Result). written (take (length (circlesOf (s .circles .now))) (r .numbers)) (s .numbers .now)) same,
+            c .before .before .before .before .before .before .before .before .before .before .write-numbers .ensures ∙ ap (λ (k : ℕ). written (take k (called .normalize-layout-with-clusters-by-value .result .result .numbers)) (s .numbers .now)) count ∙ ap (λ (r : Result). written (take (length (circlesOf (s .circles .now))) (r .numbers)) (s .numbers .now)) same,
             (
               c .before .before .before .before .before .before .store-facts .ensures ∙ ap (λ (r : Result). written (factsOf r) (s .facts .now)) same,
               (
-                first-written (called .normalize-layout-with-clusters-by-value .result .result .padding) (s .padding .now) (c .before .before .put-float .ensures) ∙ ap (λ (r : Result). written (r .padding ∷ []) (s .padding .now)) same,
+                c .before .before .write-float .ensures ∙ ap (λ (r : Result). written (r .padding ∷ []) (s .padding .now)) same,
                 λ z. promises-kept (s .circles .now) (s .factor) (s .masks .now) (s .areas .now) lent (promised .0) zero exit (promised .1 zero),
               ),
             ),
@@ -103,4 +98,4 @@ returns-2 c =
     )
 
 pub rundhefja-layout-spec : {M : Type 1} → statement M
-rundhefja-layout-spec = tie.close (tie.spec load-triples-requires normalize-layout-with-clusters-by-value-requires same-length returns store-triples-requires store-numbers-requires store-facts-requires put-float-requires same-length-2 same-length-3 same-length-4 same-length-5 returns-2)
+rundhefja-layout-spec = tie.close (tie.spec load-triples-requires normalize-layout-with-clusters-by-value-requires same-length returns store-triples-requires write-numbers-requires store-facts-requires write-float-requires same-length-2 same-length-3 same-length-4 same-length-5 returns-2)

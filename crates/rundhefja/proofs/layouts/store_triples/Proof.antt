@@ -8,7 +8,8 @@ use Rattle.scope.specs.Links.{nowhere}
 use Rattle.intake.specs.Limits.{maxCircles}
 use Rattle.rundhefja.specs.Written.{written}
 use Rattle.rundhefja.specs.Flat.{numbersOf}
-use Rattle.rundhefja.proofs.Putting.{none-written, written-length}
+use Rattle.rundhefja.proofs.Putting.{written-length}
+use Rattle.rundhefja.proofs.Writing.{nothing-written}
 use Rattle.rundhefja.proofs.Triples.{triple-written}
 use Rattle.rundhefja.proofs.layouts.store_triples.Statement.{statement}
 use Rattle.rundhefja.proofs.layouts.store_triples.Tie as tie
@@ -21,7 +22,7 @@ abbrev μ-loop : tie.MeasureT-loop
 
 loop-holds : tie.Need-loop-holds Inv-loop μ-loop
 unfolding numbersOf
-loop-holds c = (omega arith, omega arith, none-written _)
+loop-holds c = (omega arith, omega arith, nothing-written _)
 
 mul-at : tie.Need-mul-at Inv-loop μ-loop
 mul-at c = omega arith
