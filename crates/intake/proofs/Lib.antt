@@ -4,3 +4,4 @@ pub mod Rising
 pub mod Checking
 pub mod Loading
 pub mod InPlace
+pub mod Columns

@@ -2,3 +2,4 @@ pub mod Limits
 pub mod Lent
 pub mod LentBoxes
 pub mod First
+pub mod Columns
