@@ -2,20 +2,25 @@
 use Prim.Native.Nat.{ℕ, suc, _≤_, _<_}
 use native.Mathlib.Omega.{arith}
 use mathlib.Core.Path.{_≡_, refl, sym, ap, _∙_}
-use mathlib.Core.Bool.{Bool, true, false, cond}
+use mathlib.Core.Logic.{inl, inr, ⊎-elim}
+use mathlib.Core.Bool.{Bool, true, false, not, cond, _&&_, _||_}
 use mathlib.Core.List.{List, append-nil}
 use lib.ListN.{length, getD, take, drop}
 use lib.Seq.{take-length, drop-length, length-take-le, drop-cons, getD-at, ext-getD}
+use lib.Dec.{T}
 use lib.Ieee.{Float, nan}
 use Rattle.shapes.specs.declared.geometry.shapes.circle.Circle.{Circle}
 use Rattle.shapes.specs.Records.{pointAt}
 use Rattle.scope.specs.Numbers.{_+ᶠ_}
-use Rattle.scope.specs.Runs.{tab}
+use Rattle.scope.specs.Runs.{tab, any, someBelow}
+use Rattle.scope.specs.Limits.{coordinateOk, radiusOk}
 use Rattle.scope.specs.Links.{circle, nowhere}
+use Rattle.scope.specs.Refusals.{badPoint, badCentre, badRadius}
 use Rattle.scope.specs.Offset.{translated}
 use Rattle.scope.specs.Gauge.{changed}
 use Rattle.scope.specs.Centring.{allTranslated}
-use Rattle.promises.proofs.Runs.{length-tab, getD-tab, tab-equal}
+use Rattle.promises.proofs.Cases.{or-iff}
+use Rattle.promises.proofs.Runs.{length-tab, getD-tab, tab-equal, any-at, someBelow-iff}
 use Rattle.intake.specs.Columns.{circleOf, at, circlesOf, xsOf, ysOf, radiiOf, each, members, Lifted}
 use Rattle.intake.proofs.InPlace.{so-far, rewritten, all-rewritten}
 
@@ -91,3 +96,45 @@ translated-shown xs ys rs dx dy e lifted =
     rw (length-shown xs ys rs)
     (shown-equal _ _ rs (length xs) (λ i. translated (circle (circlesOf xs ys rs) i) dx dy) (length-tab (length xs) (λ i. at xs i +ᶠ dx))
     (λ i h. rw (shown-at xs ys rs i h, lifted i, getD-tab (length xs) (λ k. at xs k +ᶠ dx) i nan h, getD-tab (length ys) (λ k. at ys k +ᶠ dy) i nan (rw e h))))
+
+-- ---- tests of the circles, list by list
+same-truth : (a b : Bool) → (T a → T b) → (T b → T a) → a ≡ b
+same-truth true true f g = refl
+same-truth true false f g = absurd (f tt)
+same-truth false true f g = absurd (g tt)
+same-truth false false f g = refl
+
+either-end : (a b : Bool) → not (a && b) ≡ not a || not b
+either-end true b = refl
+either-end false b = refl
+
+pub any-below : {A : Type 0} (p : A → Bool) (l : List A) (d : A) → any p l ≡ someBelow (length l) (λ i. p (getD l i d))
+any-below p l d = same-truth _ _ (λ t. someBelow-iff (length l) (λ i. p (getD l i d)) .1 (any-at p l d .0 t)) (λ t. any-at p l d .1 (someBelow-iff (length l) (λ i. p (getD l i d)) .0 t))
+
+module _ (xs ys rs : List Float) where
+  pub any-centre : length ys ≡ length xs → any badCentre (circlesOf xs ys rs) ≡ any (λ x. not (coordinateOk x)) xs || any (λ y. not (coordinateOk y)) ys
+  unfolding badCentre badPoint
+  any-centre e =
+      same-truth _ _
+      (λ t. let f = any-at badCentre (circlesOf xs ys rs) nowhere .0 t in
+          let below : f .0 < length xs = rw (length-shown xs ys rs) at (f .1) in
+          let bad = rw (shown-at xs ys rs (f .0) below, either-end (coordinateOk (at xs (f .0))) (coordinateOk (at ys (f .0)))) at (f .2) in
+          or-iff _ _ .1 (⊎-elim (λ u. inl (any-at (λ x. not (coordinateOk x)) xs nan .1 (f .0, below, u))) (λ u. inr (any-at (λ y. not (coordinateOk y)) ys nan .1 (f .0, rw e below, u))) (or-iff _ _ .0 bad)))
+      (λ t. ⊎-elim
+          (λ u. let f = any-at (λ x. not (coordinateOk x)) xs nan .0 u in found (f .0) (f .1) (or-iff (not (coordinateOk (at xs (f .0)))) (not (coordinateOk (at ys (f .0)))) .1 (inl (f .2))))
+          (λ u. let f = any-at (λ y. not (coordinateOk y)) ys nan .0 u in found (f .0) (rw e at (f .1)) (or-iff (not (coordinateOk (at xs (f .0)))) (not (coordinateOk (at ys (f .0)))) .1 (inr (f .2))))
+          (or-iff _ _ .0 t))
+    where
+      found : (i : ℕ) → i < length xs → T (not (coordinateOk (at xs i)) || not (coordinateOk (at ys i))) → T (any badCentre (circlesOf xs ys rs))
+      found i h t = any-at badCentre (circlesOf xs ys rs) nowhere .1 (i, rw (length-shown xs ys rs) h, rw (shown-at xs ys rs i h, either-end (coordinateOk (at xs i)) (coordinateOk (at ys i))) t)
+
+  pub any-radius : length rs ≡ length xs → any badRadius (circlesOf xs ys rs) ≡ any (λ r. not (radiusOk r)) rs
+  unfolding badRadius
+  any-radius e =
+      same-truth _ _
+      (λ t. let f = any-at badRadius (circlesOf xs ys rs) nowhere .0 t in
+          let below : f .0 < length xs = rw (length-shown xs ys rs) at (f .1) in
+          any-at (λ r. not (radiusOk r)) rs nan .1 (f .0, rw e below, rw (shown-at xs ys rs (f .0) below) at (f .2)))
+      (λ t. let f = any-at (λ r. not (radiusOk r)) rs nan .0 t in
+          let below : f .0 < length xs = rw e at (f .1) in
+          any-at badRadius (circlesOf xs ys rs) nowhere .1 (f .0, rw (length-shown xs ys rs) below, rw (shown-at xs ys rs (f .0) below) (f .2)))

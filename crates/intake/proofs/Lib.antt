@@ -5,3 +5,4 @@ pub mod Checking
 pub mod Loading
 pub mod InPlace
 pub mod Columns
+pub mod CauseWords

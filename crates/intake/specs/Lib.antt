@@ -3,3 +3,4 @@ pub mod Lent
 pub mod LentBoxes
 pub mod First
 pub mod Columns
+pub mod CauseWords

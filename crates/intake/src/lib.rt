@@ -1,4 +1,5 @@
 // What a call takes: the limits of its numbers, what it refuses, and the runs of records that a caller lends.
+pub mod causes;
 pub mod lent;
 pub mod lent_boxes;
 pub mod limits;

@@ -13,10 +13,10 @@ pub const MAX_CIRCLES: usize = 64;
 pub const MAX_REGIONS: usize = 2048;
 
 // 2^20, the largest size of a coordinate.
-const MAX_COORDINATE: f64 = 1048576.0;
+pub(crate) const MAX_COORDINATE: f64 = 1048576.0;
 
 // 2^23, the largest side.
-const MAX_SIDE: f64 = 8388608.0;
+pub(crate) const MAX_SIDE: f64 = 8388608.0;
 
 // 2^26, the largest padding.
 const MAX_PADDING: f64 = 67108864.0;

@@ -54,7 +54,7 @@ pub fn circles_refusal(circles: [Circle; MAX_CIRCLES], n: usize) -> u8
     0
 }
 
-fn is_rising(masks: &[u64]) -> bool
+pub(crate) fn is_rising(masks: &[u64]) -> bool
     ensures { λ r. ⌜ r ≡ rising (now (masks .entry)) ⌝ }
 {
     let mut i: usize = 0;

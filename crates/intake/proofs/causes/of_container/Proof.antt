@@ -1,0 +1,27 @@
+-- `of_container` meets its contract.
+use borrow.Author.Needs.{needs}
+use mathlib.Core.Path.{_≡_, ap, _∙_}
+use mathlib.Core.List.{[], _∷_}
+use Rattle.intake.proofs.CauseWords.{one-cause, joined}
+use Rattle.intake.proofs.causes.of_container.Statement.{statement}
+use Rattle.intake.proofs.causes.of_container.Tie as tie
+
+bad-point-requires : tie.Need-bad-point-requires
+bad-point-requires c κs = search needs
+
+flag-requires : tie.Need-flag-requires
+flag-requires c κs = search needs
+
+bad-side-requires : tie.Need-bad-side-requires
+bad-side-requires c κs = search needs
+
+flag-requires-2 : tie.Need-flag-requires-2
+flag-requires-2 c κs = search needs
+
+returns : tie.Need-returns
+returns c =
+    let s = c .before .before in
+    joined _ _ ((3, _) ∷ []) ((7, _) ∷ []) (one-cause 3 _ _ (s .flag .ensures ∙ rw (s .before .bad-point .ensures))) (one-cause 7 _ _ (c .flag2 .ensures ∙ rw (c .before .bad-side .ensures)))
+
+pub of-container-spec : {M : Type 1} → statement M
+of-container-spec = tie.close (tie.spec bad-point-requires flag-requires bad-side-requires flag-requires-2 returns)

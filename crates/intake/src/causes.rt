@@ -1,0 +1,155 @@
+// The causes that hold, as a word: bit k is cause k. Calls join such words, and one function picks the number that comes back.
+ghost use mathlib.Core.Path.{_≡_};
+ghost use mathlib.Core.Bool.{not, cond, _||_};
+ghost use mathlib.Core.List.{[], _∷_};
+ghost use Prim.Native.Nat.{_<_};
+ghost use lib.ListN.{length};
+ghost use Rattle.scope.specs.Runs.{any, bit};
+ghost use Rattle.scope.specs.Limits.{within, coordinateOk, radiusOk, sideOk};
+ghost use Rattle.scope.specs.Refusals.{causes, first, tooMany, unequal, tooManyRegions, rising, badPoint, badCentre, badRadius, badFactor, badSide, badPadding};
+ghost use Rattle.intake.specs.CauseWords.{Says};
+use crate::limits::MAX_COORDINATE;
+use crate::limits::MAX_SIDE;
+use crate::limits::bad_centre;
+use crate::limits::bad_factor;
+use crate::limits::bad_padding;
+use crate::limits::bad_point;
+use crate::limits::bad_radius;
+use crate::limits::bad_side;
+use crate::limits::too_many;
+use crate::limits::too_many_regions;
+use crate::refusals::is_rising;
+use shapes::geometry::primitives::point::Point;
+use shapes::geometry::shapes::circle::Circle;
+use shapes::geometry::shapes::rectangle::Rectangle;
+
+// Document 01's order: 13 goes before 2. A later number is appended.
+const ORDER: [u8; 13] = [1, 13, 2, 3, 4, 5, 6, 7, 8, 9, 10, 11, 12];
+
+// The first cause of a word in that order, 0 where none holds.
+pub fn number_of(word: u32) -> u8
+    ensures { λ r. ⌜ r ≡ first (bit word) causes ⌝ }
+{
+    let order = ORDER;
+    let mut i: usize = 0;
+    while i < 13 {
+        let k = order[i];
+        if has(word, k) {
+            return k;
+        }
+        i += 1;
+    }
+    0
+}
+
+fn has(word: u32, k: u8) -> bool
+    requires { ⌜ k < 32 ⌝ }
+    ensures { λ r. ⌜ r ≡ bit word k ⌝ }
+{
+    (word >> k) % 2 == 1
+}
+
+// A word with one bit, if its cause holds.
+fn flag(holds: bool, bit: u32) -> u32
+    ensures { λ r. ⌜ r ≡ cond holds bit 0 ⌝ }
+{
+    if holds { bit } else { 0 }
+}
+
+// 1
+pub fn of_count(n: usize) -> u32
+    ensures { λ r. ⌜ Says r ((1, tooMany n) ∷ []) ⌝ }
+{
+    flag(too_many(n), 2)
+}
+
+// 13, 2, 5
+pub fn of_regions(masks: &[u64], areas: &[f64]) -> u32
+    ensures { λ r. ⌜ Says r ((13, unequal (now (masks .entry)) (now (areas .entry))) ∷ (2, tooManyRegions (length (now (masks .entry)))) ∷ (5, not (rising (now (masks .entry)))) ∷ []) ⌝ }
+{
+    flag(masks.len() != areas.len(), 8192) | flag(too_many_regions(masks.len()), 4) | flag(!is_rising(masks), 32)
+}
+
+// 3 for either
+pub fn of_points(p: Point, q: Point) -> u32
+    ensures { λ r. ⌜ Says r ((3, badPoint p || badPoint q) ∷ []) ⌝ }
+{
+    flag(bad_point(p), 8) | flag(bad_point(q), 8)
+}
+
+// 3 for either, 4 for either
+pub fn of_pair(a: Circle, b: Circle) -> u32
+    ensures { λ r. ⌜ Says r ((3, badCentre a || badCentre b) ∷ (4, badRadius a || badRadius b) ∷ []) ⌝ }
+{
+    (flag(bad_centre(a), 8) | flag(bad_centre(b), 8)) | (flag(bad_radius(a), 16) | flag(bad_radius(b), 16))
+}
+
+// 3 for either, 4
+pub fn of_circle_and_point(c: Circle, p: Point) -> u32
+    ensures { λ r. ⌜ Says r ((3, badCentre c || badPoint p) ∷ (4, badRadius c) ∷ []) ⌝ }
+{
+    (flag(bad_centre(c), 8) | flag(bad_point(p), 8)) | flag(bad_radius(c), 16)
+}
+
+// 6
+pub fn of_factor(x: f64) -> u32
+    ensures { λ r. ⌜ Says r ((6, badFactor x) ∷ []) ⌝ }
+{
+    flag(bad_factor(x), 64)
+}
+
+// 3, 7
+pub fn of_container(container: Rectangle) -> u32
+    ensures { λ r. ⌜ Says r ((3, badPoint (container .center)) ∷ (7, badSide container) ∷ []) ⌝ }
+{
+    flag(bad_point(container.center), 8) | flag(bad_side(container), 128)
+}
+
+// 8
+pub fn of_padding(x: f64) -> u32
+    ensures { λ r. ⌜ Says r ((8, badPadding x) ∷ []) ⌝ }
+{
+    flag(bad_padding(x), 256)
+}
+
+// 3, of any number of a list
+pub fn of_coordinates(list: &[f64]) -> u32
+    ensures { λ r. ⌜ Says r ((3, any (λ x. not (coordinateOk x)) (now (list .entry))) ∷ []) ⌝ }
+{
+    flag(any_outside(list, -MAX_COORDINATE, MAX_COORDINATE), 8)
+}
+
+// 4
+pub fn of_radii(list: &[f64]) -> u32
+    ensures { λ r. ⌜ Says r ((4, any (λ x. not (radiusOk x)) (now (list .entry))) ∷ []) ⌝ }
+{
+    flag(any_outside(list, Circle::MIN_RADIUS, Circle::MAX_RADIUS), 16)
+}
+
+// 7
+pub fn of_sides(list: &[f64]) -> u32
+    ensures { λ r. ⌜ Says r ((7, any (λ x. not (sideOk x)) (now (list .entry))) ∷ []) ⌝ }
+{
+    flag(any_outside(list, 0.0, MAX_SIDE), 128)
+}
+
+// Whether a number of the list is not between low and high. A NaN is between no two numbers.
+fn any_outside(list: &[f64], low: f64, high: f64) -> bool
+    ensures { λ r. ⌜ r ≡ any (λ x. not (within low high x)) (now (list .entry)) ⌝ }
+{
+    let mut outside = false;
+    let mut i: usize = 0;
+    while i < list.len() {
+        if !is_within(list[i], low, high) {
+            outside = true;
+        }
+        i += 1;
+    }
+    outside
+}
+
+fn is_within(x: f64, low: f64, high: f64) -> bool
+    ensures { λ r. ⌜ r ≡ within low high x ⌝ }
+{
+    low <= x && x <= high
+}
