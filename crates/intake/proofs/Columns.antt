@@ -111,22 +111,30 @@ either-end false b = refl
 pub any-below : {A : Type 0} (p : A → Bool) (l : List A) (d : A) → any p l ≡ someBelow (length l) (λ i. p (getD l i d))
 any-below p l d = same-truth _ _ (λ t. someBelow-iff (length l) (λ i. p (getD l i d)) .1 (any-at p l d .0 t)) (λ t. any-at p l d .1 (someBelow-iff (length l) (λ i. p (getD l i d)) .0 t))
 
+-- a coordinate out of range
+abbrev off : Float → Bool
+off x = not (coordinateOk x)
+
 module _ (xs ys rs : List Float) where
-  pub any-centre : length ys ≡ length xs → any badCentre (circlesOf xs ys rs) ≡ any (λ x. not (coordinateOk x)) xs || any (λ y. not (coordinateOk y)) ys
+  off-at : (i : ℕ) → i < length xs → badCentre (circle (circlesOf xs ys rs) i) ≡ off (at xs i) || off (at ys i)
   unfolding badCentre badPoint
+  off-at i h = rw (shown-at xs ys rs i h) (either-end (coordinateOk (at xs i)) (coordinateOk (at ys i)))
+
+  found : (i : ℕ) → i < length xs → T (off (at xs i) || off (at ys i)) → T (any badCentre (circlesOf xs ys rs))
+  found i h t = any-at badCentre (circlesOf xs ys rs) nowhere .1 (i, rw (length-shown xs ys rs) h, rw (off-at i h) t)
+
+  pub any-centre : length ys ≡ length xs → any badCentre (circlesOf xs ys rs) ≡ any off xs || any off ys
   any-centre e =
-      same-truth _ _
+      same-truth (any badCentre (circlesOf xs ys rs)) (any off xs || any off ys)
       (λ t. let f = any-at badCentre (circlesOf xs ys rs) nowhere .0 t in
-          let below : f .0 < length xs = rw (length-shown xs ys rs) at (f .1) in
-          let bad = rw (shown-at xs ys rs (f .0) below, either-end (coordinateOk (at xs (f .0))) (coordinateOk (at ys (f .0)))) at (f .2) in
-          or-iff _ _ .1 (⊎-elim (λ u. inl (any-at (λ x. not (coordinateOk x)) xs nan .1 (f .0, below, u))) (λ u. inr (any-at (λ y. not (coordinateOk y)) ys nan .1 (f .0, rw e below, u))) (or-iff _ _ .0 bad)))
+          let i = f .0 in
+          let below : i < length xs = rw (length-shown xs ys rs) at (f .1) in
+          or-iff (any off xs) (any off ys) .1
+          (⊎-elim (λ u. inl (any-at off xs nan .1 (i, below, u))) (λ u. inr (any-at off ys nan .1 (i, rw e below, u))) (or-iff (off (at xs i)) (off (at ys i)) .0 (rw (off-at i below) at (f .2)))))
       (λ t. ⊎-elim
-          (λ u. let f = any-at (λ x. not (coordinateOk x)) xs nan .0 u in found (f .0) (f .1) (or-iff (not (coordinateOk (at xs (f .0)))) (not (coordinateOk (at ys (f .0)))) .1 (inl (f .2))))
-          (λ u. let f = any-at (λ y. not (coordinateOk y)) ys nan .0 u in found (f .0) (rw e at (f .1)) (or-iff (not (coordinateOk (at xs (f .0)))) (not (coordinateOk (at ys (f .0)))) .1 (inr (f .2))))
-          (or-iff _ _ .0 t))
-    where
-      found : (i : ℕ) → i < length xs → T (not (coordinateOk (at xs i)) || not (coordinateOk (at ys i))) → T (any badCentre (circlesOf xs ys rs))
-      found i h t = any-at badCentre (circlesOf xs ys rs) nowhere .1 (i, rw (length-shown xs ys rs) h, rw (shown-at xs ys rs i h, either-end (coordinateOk (at xs i)) (coordinateOk (at ys i))) t)
+          (λ u. let f = any-at off xs nan .0 u in found (f .0) (f .1) (or-iff (off (at xs (f .0))) (off (at ys (f .0))) .1 (inl (f .2))))
+          (λ u. let f = any-at off ys nan .0 u in found (f .0) (rw e at (f .1)) (or-iff (off (at xs (f .0))) (off (at ys (f .0))) .1 (inr (f .2))))
+          (or-iff (any off xs) (any off ys) .0 t))
 
   pub any-radius : length rs ≡ length xs → any badRadius (circlesOf xs ys rs) ≡ any (λ r. not (radiusOk r)) rs
   unfolding badRadius
