@@ -104,37 +104,37 @@ same-truth true false f g = absurd (f tt)
 same-truth false true f g = absurd (g tt)
 same-truth false false f g = refl
 
-either-end : (a b : Bool) → not (a && b) ≡ not a || not b
-either-end true b = refl
-either-end false b = refl
-
 pub any-below : {A : Type 0} (p : A → Bool) (l : List A) (d : A) → any p l ≡ someBelow (length l) (λ i. p (getD l i d))
 any-below p l d = same-truth _ _ (λ t. someBelow-iff (length l) (λ i. p (getD l i d)) .1 (any-at p l d .0 t)) (λ t. any-at p l d .1 (someBelow-iff (length l) (λ i. p (getD l i d)) .0 t))
 
--- a coordinate out of range
-abbrev off : Float → Bool
-off x = not (coordinateOk x)
+-- a record fails if either of two numbers does: one of the records fails exactly if a number of either list does
+pub any-either : {A : Type 0} (p : A → Bool) (q : Float → Bool) (l : List A) (d : A) (xs ys : List Float) → length l ≡ length xs → length ys ≡ length xs
+    → ((i : ℕ) → i < length xs → p (getD l i d) ≡ q (at xs i) || q (at ys i)) → any p l ≡ any q xs || any q ys
+any-either p q l d xs ys e f same =
+    same-truth (any p l) (any q xs || any q ys)
+    (λ t. let g = any-at p l d .0 t in
+        let i = g .0 in
+        let below : i < length xs = rw e at (g .1) in
+        or-iff (any q xs) (any q ys) .1
+        (⊎-elim (λ u. inl (any-at q xs nan .1 (i, below, u))) (λ u. inr (any-at q ys nan .1 (i, rw f below, u))) (or-iff (q (at xs i)) (q (at ys i)) .0 (rw (same i below) at (g .2)))))
+    (λ t. ⊎-elim
+        (λ u. let g = any-at q xs nan .0 u in found (g .0) (g .1) (or-iff (q (at xs (g .0))) (q (at ys (g .0))) .1 (inl (g .2))))
+        (λ u. let g = any-at q ys nan .0 u in found (g .0) (rw f at (g .1)) (or-iff (q (at xs (g .0))) (q (at ys (g .0))) .1 (inr (g .2))))
+        (or-iff (any q xs) (any q ys) .0 t))
+  where
+    found : (i : ℕ) → i < length xs → T (q (at xs i) || q (at ys i)) → T (any p l)
+    found i h t = any-at p l d .1 (i, rw e h, rw (same i h) t)
+
+pub not-both : (a b : Bool) → not (a && b) ≡ not a || not b
+not-both true b = refl
+not-both false b = refl
 
 module _ (xs ys rs : List Float) where
-  off-at : (i : ℕ) → i < length xs → badCentre (circle (circlesOf xs ys rs) i) ≡ off (at xs i) || off (at ys i)
+  pub any-centre : length ys ≡ length xs → any badCentre (circlesOf xs ys rs) ≡ any (λ x. not (coordinateOk x)) xs || any (λ y. not (coordinateOk y)) ys
   unfolding badCentre badPoint
-  off-at i h = rw (shown-at xs ys rs i h) (either-end (coordinateOk (at xs i)) (coordinateOk (at ys i)))
-
-  found : (i : ℕ) → i < length xs → T (off (at xs i) || off (at ys i)) → T (any badCentre (circlesOf xs ys rs))
-  found i h t = any-at badCentre (circlesOf xs ys rs) nowhere .1 (i, rw (length-shown xs ys rs) h, rw (off-at i h) t)
-
-  pub any-centre : length ys ≡ length xs → any badCentre (circlesOf xs ys rs) ≡ any off xs || any off ys
   any-centre e =
-      same-truth (any badCentre (circlesOf xs ys rs)) (any off xs || any off ys)
-      (λ t. let f = any-at badCentre (circlesOf xs ys rs) nowhere .0 t in
-          let i = f .0 in
-          let below : i < length xs = rw (length-shown xs ys rs) at (f .1) in
-          or-iff (any off xs) (any off ys) .1
-          (⊎-elim (λ u. inl (any-at off xs nan .1 (i, below, u))) (λ u. inr (any-at off ys nan .1 (i, rw e below, u))) (or-iff (off (at xs i)) (off (at ys i)) .0 (rw (off-at i below) at (f .2)))))
-      (λ t. ⊎-elim
-          (λ u. let f = any-at off xs nan .0 u in found (f .0) (f .1) (or-iff (off (at xs (f .0))) (off (at ys (f .0))) .1 (inl (f .2))))
-          (λ u. let f = any-at off ys nan .0 u in found (f .0) (rw e at (f .1)) (or-iff (off (at xs (f .0))) (off (at ys (f .0))) .1 (inr (f .2))))
-          (or-iff (any off xs) (any off ys) .0 t))
+      any-either badCentre (λ x. not (coordinateOk x)) (circlesOf xs ys rs) nowhere xs ys (length-shown xs ys rs) e
+      (λ i h. rw (shown-at xs ys rs i h) (not-both (coordinateOk (at xs i)) (coordinateOk (at ys i))))
 
   pub any-radius : length rs ≡ length xs → any badRadius (circlesOf xs ys rs) ≡ any (λ r. not (radiusOk r)) rs
   unfolding badRadius

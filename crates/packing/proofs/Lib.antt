@@ -1,0 +1,4 @@
+pub mod Arrays
+pub mod Grid
+pub mod ColumnTable
+pub mod Packings

@@ -1,0 +1,15 @@
+-- `goes_before` meets its contract.
+use Rattle.packing.proofs.goes_before.Statement.{statement}
+use Rattle.packing.proofs.goes_before.Tie as tie
+
+returns : tie.Need-returns
+returns c = rw (c .if1 .taken)
+
+returns-2 : tie.Need-returns-2
+returns-2 c = rw (c .before .if1 .left, c .if2 .taken)
+
+returns-3 : tie.Need-returns-3
+returns-3 c = rw (c .before .if1 .left, c .if2 .left)
+
+pub goes-before-spec : {M : Type 1} → statement M
+goes-before-spec = tie.close (tie.spec returns returns-2 returns-3)

@@ -1,0 +1,33 @@
+-- `pack_lists` meets its contract: refused and nothing written, or the boxes in the grid.
+use mathlib.Core.Path.{_≡_, refl, sym, _∙_}
+use borrow.Author.Needs.{needs}
+use borrow.Author.Tests.{ne-eqb}
+use Rattle.packing.proofs.Packings.{accepted-few}
+use Rattle.packing.proofs.pack_lists.Statement.{statement}
+use Rattle.packing.proofs.pack_lists.Tie as tie
+
+pack-number-requires : tie.Need-pack-number-requires
+pack-number-requires c κs = search needs
+
+returns : tie.Need-returns
+returns c = let none = ne-eqb _ _ (c .if1 .taken) in (c .before .pack-number .ensures, (rw none, rw none))
+
+in-front-requires : tie.Need-in-front-requires
+in-front-requires c κs =
+    let S = c .before .before .before .before .before .before .before .before in
+    let s = c .before .before .before in
+    (accepted-few _ _ _ _ (S .pre .0) (S .pre .1) (sym (s .pack-number .ensures) ∙ c .before .before .if1 .left), S .pre .0, S .pre .1, search needs, search needs)
+
+same-length : tie.Need-same-length
+same-length c = search needs
+
+same-length-2 : tie.Need-same-length-2
+same-length-2 c = search needs
+
+returns-2 : tie.Need-returns-2
+returns-2 c = search needs
+
+pub pack-lists-spec : {M : Type 1} → statement M
+pack-lists-spec =
+    tie.close
+    (tie.spec pack-number-requires returns in-front-requires same-length same-length-2 returns-2)

@@ -1,0 +1,17 @@
+-- Lists that hold the values of a function.
+use Prim.Native.Nat.{ℕ, _≤_, _<_, _/_, _%_}
+use mathlib.Core.Path.{_≡_}
+use mathlib.Core.List.{List}
+use lib.ListN.{length, getD}
+use Rattle.scope.specs.Numbers.{golden}
+use Rattle.scope.specs.Packing.{columns}
+
+-- the first n entries are f's values; z is what `getD` gives past the end
+pub record At {A : Type 0} (n : ℕ) (l : List A) (z : A) (f : ℕ → A) : Type 0 where
+  pub fits : n ≤ length l
+  pub is : (i : ℕ) → i < n → getD l i z ≡ f i
+
+-- the columns and the rows of n boxes, by their places
+pub record Lined (n : ℕ) (place : ℕ → ℕ) (cols rows : List ℕ) : Type 0 where
+  pub across : At n cols 0 (λ i. place i % columns n golden)
+  pub down : At n rows 0 (λ i. place i / columns n golden)

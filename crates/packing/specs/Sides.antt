@@ -1,0 +1,43 @@
+-- Boxes as lists of numbers: their sides, which are all that packing looks at, and where their centres come to stand.
+use Prim.Native.Nat.{ℕ, _<_}
+use mathlib.Core.Path.{_≡_}
+use mathlib.Core.Bool.{cond}
+use mathlib.Core.List.{List, []}
+use lib.ListN.{length, take}
+use lib.Ieee.{Float}
+use Rattle.shapes.specs.Records.{pointAt, rectangleOf}
+use Rattle.shapes.specs.declared.geometry.shapes.rectangle.Rectangle.{Rectangle}
+use Rattle.scope.specs.Numbers.{nought}
+use Rattle.scope.specs.Runs.{tab}
+use Rattle.scope.specs.Refusals.{tooMany, packRefusal}
+use Rattle.scope.specs.Packing.{Packing, rectangle, widthAt, heightAt, packing, skylinePack}
+use Rattle.intake.specs.Columns.{at}
+
+-- n boxes of these sides, wherever they stand
+unfoldable pub sided : ℕ → List Float → List Float → List Rectangle
+sided n widths heights = tab n (λ i. rectangleOf (pointAt nought nought) (at widths i) (at heights i))
+
+-- the centres of boxes
+unfoldable pub centreXs : List Rectangle → List Float
+centreXs rects = tab (length rects) (λ i. rectangle rects i .center .x)
+
+unfoldable pub centreYs : List Rectangle → List Float
+centreYs rects = tab (length rects) (λ i. rectangle rects i .center .y)
+
+-- the number that comes back for n boxes of these sides; with too many, no box is looked at
+unfoldable pub sidesNumber : ℕ → List Float → List Float → Float → ℕ
+sidesNumber n widths heights padding = cond (tooMany n) 1 (packRefusal (sided n widths heights) padding)
+
+-- the whole answer
+unfoldable pub sidedPacking : ℕ → List Float → List Float → Float → Packing
+sidedPacking n widths heights padding = cond (tooMany n) (packing 1 []) (skylinePack (sided n widths heights) padding)
+
+-- the first n boxes of an array packed
+unfoldable pub firstPacking : ℕ → List Rectangle → Float → Packing
+firstPacking n rects padding = cond (tooMany n) (packing 1 []) (skylinePack (take n rects) padding)
+
+-- boxes of these sides
+pub record Sides (k : ℕ) (widths heights : List Float) (rects : List Rectangle) : Type 0 where
+  pub long : length rects ≡ k
+  pub wide : (i : ℕ) → i < k → widthAt rects i ≡ at widths i
+  pub high : (i : ℕ) → i < k → heightAt rects i ≡ at heights i

@@ -1,0 +1,362 @@
+// Boxes in a grid whose width and height are near 1.618 to 1: the largest first, row by row.
+// The sides of the boxes stand in two lists, and so do the places that their centres come to.
+ghost use mathlib.Core.Path.{_≡_};
+ghost use mathlib.Core.Bool.{cond, _&&_, _||_};
+ghost use Prim.Native.Nat.{ℕ, _≤_, _<_};
+ghost use lib.Dec.{eqb, ltb};
+ghost use lib.ListN.{getD, length};
+ghost use lib.Ieee.{nan, eq};
+ghost use Rattle.scope.specs.Numbers.{_<ᶠ_, _*ᶠ_, nought, golden};
+ghost use Rattle.scope.specs.Refusals.{tooMany, packRefusal};
+ghost use Rattle.scope.specs.Packing.{columns, columnsAnswer, place, breadth, start, centred, placed, packed};
+ghost use Rattle.promises.proofs.AfterRefusal.{refusedPacking};
+ghost use Rattle.intake.specs.Limits.{maxCircles};
+ghost use Rattle.intake.specs.Columns.{at, overwritten};
+ghost use Rattle.packing.specs.Answers.{counted, packedBoxes};
+ghost use Rattle.packing.specs.Sides.{sided, sidesNumber, sidedPacking, centreXs, centreYs, firstPacking};
+ghost use Rattle.packing.specs.Lists.{At, Lined};
+use intake::causes::number_of;
+use intake::causes::of_count;
+use intake::causes::of_padding;
+use intake::causes::of_sides;
+use intake::limits::MAX_CIRCLES;
+use intake::limits::room;
+use intake::limits::too_many;
+use shapes::extremes::maximum;
+use shapes::geometry::primitives::point::Point;
+use shapes::geometry::shapes::rectangle::Rectangle;
+
+// A number of columns, or a refusal's number.
+pub enum ColumnCount {
+    Of(usize),
+    Refused(u8),
+}
+
+// A refusal's number or 0, and the boxes in the order given. What is not used is 0.
+#[repr(C)]
+pub struct Packed {
+    pub refusal: u8,
+    pub rectangles: [Rectangle; MAX_CIRCLES],
+}
+
+// No boxes have 0 columns, and more than 64 give 1.
+pub fn columns(k: usize) -> ColumnCount
+    ensures { λ r. ⌜ counted r ≡ columnsAnswer k ⌝ }
+{
+    let refusal = number_of(of_count(k));
+    if refusal != 0 {
+        return ColumnCount::Refused(refusal);
+    }
+    ColumnCount::Of(columns_of(k))
+}
+
+// Where the centres of n boxes come to stand, by their sides: a refusal's number or 0.
+// Refused, and then nothing is written: too many boxes (1), a side (7), the padding (8).
+pub fn pack_sides(
+    widths: &[f64; MAX_CIRCLES],
+    heights: &[f64; MAX_CIRCLES],
+    n: usize,
+    padding: f64,
+    xs: &mut [f64; MAX_CIRCLES],
+    ys: &mut [f64; MAX_CIRCLES],
+) -> u8
+    ensures number { λ r. ⌜ r ≡ sidesNumber n (now (widths .entry)) (now (heights .entry)) padding ⌝ }
+    ensures x { λ r. ⌜ now (xs .exit) ≡ cond (eqb r 0) (overwritten (centreXs (packed golden (sided n (now (widths .entry)) (now (heights .entry))) padding)) (now (xs .entry))) (now (xs .entry)) ⌝ }
+    ensures y { λ r. ⌜ now (ys .exit) ≡ cond (eqb r 0) (overwritten (centreYs (packed golden (sided n (now (widths .entry)) (now (heights .entry))) padding)) (now (ys .entry))) (now (ys .entry)) ⌝ }
+{
+    pack_lists(widths, heights, n, padding, xs, ys)
+}
+
+fn pack_lists(
+    widths: &[f64],
+    heights: &[f64],
+    n: usize,
+    padding: f64,
+    xs: &mut [f64],
+    ys: &mut [f64],
+) -> u8
+    requires { ⌜ (length (now widths) ≡ maxCircles) × (length (now heights) ≡ maxCircles) × (length (now xs) ≡ maxCircles) × (length (now ys) ≡ maxCircles) ⌝ }
+    ensures number { λ r. ⌜ r ≡ sidesNumber n (now (widths .entry)) (now (heights .entry)) padding ⌝ }
+    ensures x { λ r. ⌜ now (xs .exit) ≡ cond (eqb r 0) (overwritten (centreXs (packed golden (sided n (now (widths .entry)) (now (heights .entry))) padding)) (now (xs .entry))) (now (xs .entry)) ⌝ }
+    ensures y { λ r. ⌜ now (ys .exit) ≡ cond (eqb r 0) (overwritten (centreYs (packed golden (sided n (now (widths .entry)) (now (heights .entry))) padding)) (now (ys .entry))) (now (ys .entry)) ⌝ }
+{
+    let refusal = pack_number(widths, heights, n, padding);
+    if refusal != 0 {
+        return refusal;
+    }
+    in_front(widths, heights, n, padding, xs, ys);
+    0
+}
+
+fn in_front(
+    widths: &[f64],
+    heights: &[f64],
+    n: usize,
+    padding: f64,
+    xs: &mut [f64],
+    ys: &mut [f64],
+)
+    requires { ⌜ (n ≤ maxCircles) × (length (now widths) ≡ maxCircles) × (length (now heights) ≡ maxCircles) × (length (now xs) ≡ maxCircles) × (length (now ys) ≡ maxCircles) ⌝ }
+    ensures x { λ _. ⌜ now (xs .exit) ≡ overwritten (centreXs (packed golden (sided n (now (widths .entry)) (now (heights .entry))) padding)) (now (xs .entry)) ⌝ }
+    ensures y { λ _. ⌜ now (ys .exit) ≡ overwritten (centreYs (packed golden (sided n (now (widths .entry)) (now (heights .entry))) padding)) (now (ys .entry)) ⌝ }
+{
+    in_grid(&widths[0..n], &heights[0..n], padding, &mut xs[0..n], &mut ys[0..n]);
+}
+
+fn pack_number(widths: &[f64], heights: &[f64], n: usize, padding: f64) -> u8
+    requires { ⌜ (length (now widths) ≡ maxCircles) × (length (now heights) ≡ maxCircles) ⌝ }
+    ensures { λ r. ⌜ r ≡ sidesNumber n (now (widths .entry)) (now (heights .entry)) padding ⌝ }
+{
+    let m = room(n);
+    number_of(of_count(n) | of_sides(&widths[0..m]) | of_sides(&heights[0..m]) | of_padding(padding))
+}
+
+// ---- the grid, over lists of one length
+
+fn in_grid(widths: &[f64], heights: &[f64], padding: f64, xs: &mut [f64], ys: &mut [f64])
+    requires { ⌜ (length (now widths) ≤ maxCircles) × (length (now heights) ≡ length (now widths)) × (length (now xs) ≡ length (now widths)) × (length (now ys) ≡ length (now widths)) ⌝ }
+    ensures x { λ _. ⌜ now (xs .exit) ≡ centreXs (packed golden (sided (length (now (widths .entry))) (now (widths .entry)) (now (heights .entry))) padding) ⌝ }
+    ensures y { λ _. ⌜ now (ys .exit) ≡ centreYs (packed golden (sided (length (now (widths .entry))) (now (widths .entry)) (now (heights .entry))) padding) ⌝ }
+{
+    let k = widths.len();
+    let mut areas = [0.0; MAX_CIRCLES];
+    let mut columns = [0usize; MAX_CIRCLES];
+    let mut rows = [0usize; MAX_CIRCLES];
+    let mut breadths = [0.0; MAX_CIRCLES];
+    let mut cells = [0.0; MAX_CIRCLES];
+    on_axes(
+        widths,
+        heights,
+        padding,
+        xs,
+        ys,
+        &mut areas[0..k],
+        &mut columns[0..k],
+        &mut rows[0..k],
+        &mut breadths[0..k],
+        &mut cells[0..k],
+    );
+}
+
+// What follows ys is room to work in.
+fn on_axes(
+    widths: &[f64],
+    heights: &[f64],
+    padding: f64,
+    xs: &mut [f64],
+    ys: &mut [f64],
+    areas: &mut [f64],
+    columns: &mut [usize],
+    rows: &mut [usize],
+    breadths: &mut [f64],
+    cells: &mut [f64],
+)
+    requires { ⌜ (length (now widths) ≤ maxCircles) × (length (now heights) ≡ length (now widths)) × (length (now xs) ≡ length (now widths)) × (length (now ys) ≡ length (now widths)) × ((length (now areas) ≡ length (now widths)) × (length (now columns) ≡ length (now widths)) × (length (now rows) ≡ length (now widths)) × (length (now breadths) ≡ length (now widths)) × (length (now cells) ≡ length (now widths))) ⌝ }
+    ensures x { λ _. ⌜ now (xs .exit) ≡ centreXs (packed golden (sided (length (now (widths .entry))) (now (widths .entry)) (now (heights .entry))) padding) ⌝ }
+    ensures y { λ _. ⌜ now (ys .exit) ≡ centreYs (packed golden (sided (length (now (widths .entry))) (now (widths .entry)) (now (heights .entry))) padding) ⌝ }
+{
+    areas_of(widths, heights, areas);
+    lines_of(areas, columns, rows);
+    axis(widths, columns, padding, xs, breadths, cells);
+    axis(heights, rows, padding, ys, breadths, cells);
+}
+
+fn areas_of(widths: &[f64], heights: &[f64], areas: &mut [f64])
+    requires { ⌜ (length (now heights) ≡ length (now widths)) × (length (now areas) ≡ length (now widths)) ⌝ }
+    ensures { λ _. ⌜ At (length (now (widths .entry))) (now (areas .exit)) nan (λ i. at (now (widths .entry)) i *ᶠ at (now (heights .entry)) i) ⌝ }
+{
+    let mut i: usize = 0;
+    while i < areas.len() {
+        areas[i] = widths[i] * heights[i];
+        i += 1;
+    }
+}
+
+// The column and the row of each box, by its place among the boxes.
+fn lines_of(areas: &[f64], columns: &mut [usize], rows: &mut [usize])
+    requires { ⌜ (length (now areas) ≤ maxCircles) × (length (now columns) ≡ length (now areas)) × (length (now rows) ≡ length (now areas)) ⌝ }
+    ensures { λ _. ⌜ Lined (length (now (columns .entry))) (place (length (now (columns .entry))) (at (now (areas .entry)))) (now (columns .exit)) (now (rows .exit)) ⌝ }
+{
+    let count = columns_of(areas.len());
+    let mut i: usize = 0;
+    while i < areas.len() {
+        let p = place(areas, i);
+        columns[i] = p % count;
+        rows[i] = p / count;
+        i += 1;
+    }
+}
+
+// How many boxes go before box i: those of larger area, and those of equal area and lower index.
+fn place(areas: &[f64], i: usize) -> usize
+    requires { ⌜ i < length (now areas) ⌝ }
+    ensures { λ r. ⌜ r ≡ place (length (now (areas .entry))) (at (now (areas .entry))) i ⌝ }
+{
+    let mut count: usize = 0;
+    let mut j: usize = 0;
+    while j < areas.len() {
+        if goes_before(areas[i], i, areas[j], j) {
+            count += 1;
+        }
+        j += 1;
+    }
+    count
+}
+
+// Whether box j, of area b, goes before box i, of area a.
+fn goes_before(a: f64, i: usize, b: f64, j: usize) -> bool
+    ensures { λ r. ⌜ r ≡ ((a <ᶠ b) || (eq a b && ltb j i)) ⌝ }
+{
+    a < b || (a == b && j < i)
+}
+
+// ---- one axis of the grid: box i stands in line lines[i], its column for widths, its row for heights
+
+// Where each box's centre comes to stand.
+fn axis(
+    sides: &[f64],
+    lines: &[usize],
+    padding: f64,
+    centres: &mut [f64],
+    breadths: &mut [f64],
+    cells: &mut [f64],
+)
+    requires { ⌜ (length (now lines) ≡ length (now sides)) × (length (now centres) ≡ length (now sides)) × (length (now breadths) ≡ length (now sides)) × (length (now cells) ≡ length (now sides)) × ((i : ℕ) → i < length (now sides) → getD (now lines) i 0 < length (now sides)) ⌝ }
+    ensures { λ _. ⌜ At (length (now (sides .entry))) (now (centres .exit)) nan (placed (length (now (sides .entry))) (λ b. getD (now (lines .entry)) b 0) (at (now (sides .entry))) padding) ⌝ }
+{
+    breadths_of(sides, lines, padding, breadths);
+    starts_of(breadths, cells);
+    centres_of(sides, lines, breadths, cells, centres);
+}
+
+// Each box in the middle of its cell.
+fn centres_of(sides: &[f64], lines: &[usize], breadths: &[f64], cells: &[f64], centres: &mut [f64])
+    requires { ⌜ (length (now lines) ≡ length (now sides)) × (length (now breadths) ≡ length (now sides)) × (length (now cells) ≡ length (now sides)) × (length (now centres) ≡ length (now sides)) × ((i : ℕ) → i < length (now sides) → getD (now lines) i 0 < length (now sides)) ⌝ }
+    ensures { λ _. ⌜ At (length (now (sides .entry))) (now (centres .exit)) nan (λ i. centred (at (now (cells .entry)) (getD (now (lines .entry)) i 0)) (at (now (breadths .entry)) (getD (now (lines .entry)) i 0)) (at (now (sides .entry)) i)) ⌝ }
+{
+    let mut i: usize = 0;
+    while i < sides.len() {
+        let line = lines[i];
+        let side = sides[i];
+        centres[i] = cells[line] + (breadths[line] - side) / 2.0 + side / 2.0;
+        i += 1;
+    }
+}
+
+// The width of each line: of the boxes in it, the largest side plus padding, from 0.
+fn breadths_of(sides: &[f64], lines: &[usize], padding: f64, breadths: &mut [f64])
+    requires { ⌜ (length (now lines) ≡ length (now sides)) × (length (now breadths) ≡ length (now sides)) × ((i : ℕ) → i < length (now sides) → getD (now lines) i 0 < length (now sides)) ⌝ }
+    ensures { λ _. ⌜ At (length (now (sides .entry))) (now (breadths .exit)) nan (breadth (length (now (sides .entry))) (λ b. getD (now (lines .entry)) b 0) (at (now (sides .entry))) padding) ⌝ }
+{
+    clear(breadths);
+    let mut i: usize = 0;
+    while i < sides.len() {
+        let line = lines[i];
+        breadths[line] = maximum(breadths[line], sides[i] + padding);
+        i += 1;
+    }
+}
+
+fn clear(list: &mut [f64])
+    ensures { λ _. ⌜ At (length (now (list .entry))) (now (list .exit)) nan (λ _. nought) ⌝ }
+{
+    let mut i: usize = 0;
+    while i < list.len() {
+        list[i] = 0.0;
+        i += 1;
+    }
+}
+
+// Where each line starts: the widths before it, summed in order.
+fn starts_of(breadths: &[f64], cells: &mut [f64])
+    requires { ⌜ length (now cells) ≡ length (now breadths) ⌝ }
+    ensures { λ _. ⌜ At (length (now (cells .entry))) (now (cells .exit)) nan (start (at (now (breadths .entry)))) ⌝ }
+{
+    let mut sum = 0.0;
+    let mut j: usize = 0;
+    while j < cells.len() {
+        cells[j] = sum;
+        sum = sum + breadths[j];
+        j += 1;
+    }
+}
+
+// ---- columns
+
+fn columns_of(k: usize) -> usize
+    requires { ⌜ k ≤ maxCircles ⌝ }
+    ensures { λ r. ⌜ r ≡ columns k golden ⌝ }
+{
+    if k == 0 {
+        return 0;
+    }
+    TABLE[k - 1]
+}
+
+// How many columns 1 to 64 boxes have: root(k) * root(1.618), raised to a whole number.
+const TABLE: [usize; MAX_CIRCLES] = [
+    2,
+    2,
+    3,
+    3,
+    3,
+    4,
+    4,
+    4,
+    4,
+    5,
+    5,
+    5,
+    5,
+    5,
+    5,
+    6,
+    6,
+    6,
+    6,
+    6,
+    6,
+    6,
+    7,
+    7,
+    7,
+    7,
+    7,
+    7,
+    7,
+    7,
+    8,
+    8,
+    8,
+    8,
+    8,
+    8,
+    8,
+    8,
+    8,
+    9,
+    9,
+    9,
+    9,
+    9,
+    9,
+    9,
+    9,
+    9,
+    9,
+    9,
+    10,
+    10,
+    10,
+    10,
+    10,
+    10,
+    10,
+    10,
+    10,
+    10,
+    10,
+    11,
+    11,
+    11,
+];
