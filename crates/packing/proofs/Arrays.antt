@@ -6,10 +6,12 @@ use mathlib.Core.Bool.{Bool, true, false}
 use mathlib.Core.List.{List, [], _∷_}
 use native.Mathlib.Decide.{ℕ-discrete}
 use native.Mathlib.Omega.{arith}
-use lib.ListN.{length, getD, set, length-set}
-use lib.Seq.{getD-set-same, getD-set-other, ext-getD}
-use Rattle.scope.specs.Runs.{tab, many}
+use native.Mathlib.Nat.{min-eq-left}
+use lib.ListN.{length, getD, set, replicate, length-set, length-replicate}
+use lib.Seq.{getD-set-same, getD-set-other, take-all, ext-getD}
+use Rattle.scope.specs.Runs.{tab, many, filled}
 use Rattle.promises.proofs.Runs.{length-tab, getD-tab, many-takes, many-leaves}
+use Rattle.intake.proofs.Loading.{over, over-next, over-all}
 use Rattle.packing.specs.Lists.{At}
 
 module _ {A : Type 0} (z : A) (f : ℕ → A) where
@@ -46,3 +48,13 @@ module _ {c : ℕ} (j : ℕ) (p : ℕ → Bool) (b : Bool) (e : c ≡ many j p) 
 
   pub count-leaves : b ≡ false → c ≡ many (j + 1) p
   count-leaves t = rw (add-one j, many-leaves j p (rw (← is, t) (λ h. h))) e
+
+-- ---- a run written over a longer one
+module _ {A : Type 0} (n i w : ℕ) (f : ℕ → A) (z : A) where
+  pub over-tab-next : i < n → i < w → set (over i (tab n f) (replicate w z)) i (f i) ≡ over (i + 1) (tab n f) (replicate w z)
+  over-tab-next h g =
+      ap (set (over i (tab n f) (replicate w z)) i) (sym (getD-tab n f i z h))
+      ∙ rw add-one (over-next i (tab n f) (replicate w z) z (rw length-tab h) (rw length-replicate g))
+
+pub over-tab-all : {A : Type 0} (n w : ℕ) (f : ℕ → A) (z : A) → n ≤ w → over n (tab n f) (replicate w z) ≡ filled w z (tab n f)
+over-tab-all n w f z h = rw (length-tab n f, min-eq-left h, take-all w (tab n f) (rw length-tab h)) at (over-all w (tab n f) z)

@@ -1,19 +1,22 @@
 -- The table of column counts has the rule of document 01 at every entry: one test, computed over the whole table. And the column answer.
 use Prim.Native.Nat.{ℕ, zero, suc, _≤_, _<_}
 use native.Mathlib.Omega.{arith}
-use mathlib.Core.Path.{_≡_, refl}
+use mathlib.Core.Path.{_≡_, refl, sym, ap, _∙_}
+use mathlib.Core.Logic.{_≢_}
 use mathlib.Core.Bool.{Bool, true, false, _&&_, cond}
 use mathlib.Core.List.{List, [], _∷_}
 use lib.Dec.{T, eqb, ltb, eqb→eq, ltb→lt}
 use lib.ListN.{getD}
 use Rattle.algebra.proofs.Table.{every, at}
 use Rattle.scope.specs.Numbers.{golden}
+use Rattle.scope.specs.Limits.{circleCap}
 use Rattle.scope.specs.Refusals.{frontToBack, tooMany, columnsRefusal, answer, refused, given}
 use Rattle.scope.specs.Packing.{columns, columnsAnswer}
 use Rattle.scope.specs.Computing.{computing}
 use Rattle.promises.proofs.Cases.{and-iff}
 use Rattle.promises.proofs.EntryPoints.{columns-reads}
 use Rattle.intake.specs.Limits.{maxCircles}
+use Rattle.intake.proofs.Checking.{few}
 
 -- the columns of 1 to 64 boxes
 abbrev pub table : List ℕ
@@ -38,18 +41,30 @@ unfolding computing
 no-columns = refl
 
 -- ---- the answer
-
 columns-order : (k : ℕ) → columnsRefusal k ≡ cond (tooMany k) 1 0
 unfolding frontToBack
 columns-order k = columns-reads k .runs
 
-pub columns-refused : (k : ℕ) → tooMany k ≡ true → refused 1 ≡ columnsAnswer k
-unfolding columnsAnswer answer
-columns-refused k h = rw (columns-order k, h)
+by-number : (r k : ℕ) → r ≢ 0 → refused r ≡ answer r k
+unfolding answer
+by-number zero k h = absurd (h refl)
+by-number (suc r) k h = refl
 
-pub columns-given : (k : ℕ) → tooMany k ≡ false → given (columns k golden) ≡ columnsAnswer k
+pub columns-refused : (k r : ℕ) → r ≡ columnsRefusal k → r ≢ 0 → refused r ≡ columnsAnswer k
+unfolding columnsAnswer
+columns-refused k r e h = by-number r (columns k golden) h ∙ ap (λ (n : ℕ). answer n (columns k golden)) e
+
+pub columns-given : (k : ℕ) → columnsRefusal k ≡ 0 → given (columns k golden) ≡ columnsAnswer k
 unfolding columnsAnswer answer
-columns-given k h = rw (columns-order k, h)
+columns-given k h = rw h
+
+pub columns-few : (k : ℕ) → columnsRefusal k ≡ 0 → k ≤ maxCircles
+unfolding circleCap
+columns-few k h = by-test (tooMany k) refl (sym (columns-order k) ∙ h)
+  where
+    by-test : (b : Bool) → tooMany k ≡ b → _≡_ {A = ℕ} (cond b 1 0) 0 → k ≤ maxCircles
+    by-test true e z = absurd (omega arith)
+    by-test false e z = few k e
 
 -- ---- at least 2, and fewer than there may be boxes
 

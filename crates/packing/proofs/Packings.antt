@@ -86,6 +86,12 @@ module _ (k : ℕ) (ws hs : List Float) where
         (getD-tab k (place k (λ b. getD (tab k (λ j. rectangleArea (rectangle rects j))) b nought)) i 0 h
         ∙ place-equal k _ area (λ j g. getD-tab k (λ b. rectangleArea (rectangle rects b)) j nought g ∙ rw (s .wide j g, s .high j g)) i h)
 
+    in-columns : (i : ℕ) → i < k → placed k (columnOf (columns k golden) (places rects)) (widthAt rects) pad i ≡ placed k column (at ws) pad i
+    in-columns i h = placed-equal k (columnOf (columns k golden) (places rects)) column (widthAt rects) (at ws) pad (λ b g. ap (λ (p : ℕ). p % columns k golden) (listed-place b g)) (s .wide) i h
+
+    in-rows : (i : ℕ) → i < k → placed k (rowOf (columns k golden) (places rects)) (heightAt rects) pad i ≡ placed k row (at hs) pad i
+    in-rows i h = placed-equal k (rowOf (columns k golden) (places rects)) row (heightAt rects) (at hs) pad (λ b g. ap (λ (p : ℕ). p / columns k golden) (listed-place b g)) (s .high) i h
+
     abbrev boxed : ℕ → Rectangle
     boxed i = rectangleOf (placedCentre (columns k golden) (places rects) rects pad i) (widthAt rects i) (heightAt rects i)
 
@@ -93,25 +99,30 @@ module _ (k : ℕ) (ws hs : List Float) where
     unfolding packed
     packed-is = rw (s .long)
 
-    length-packed : length (packed golden rects pad) ≡ k
+    pub length-packed : length (packed golden rects pad) ≡ k
     length-packed = rw packed-is (length-tab k boxed)
 
     packed-at : (i : ℕ) → i < k → rectangle (packed golden rects pad) i ≡ boxed i
     packed-at i h = rw packed-is (getD-tab k boxed i noRectangle h)
 
+    -- a packed box keeps its sides
+    pub boxed-at : (i : ℕ) → i < k → rectangle (packed golden rects pad) i ≡ rectangleOf (rectangle (packed golden rects pad) i .center) (at ws i) (at hs i)
+    boxed-at i h = rw (packed-at i h, s .wide i h, s .high i h)
+
+    -- the boxes, by their sides alone
+    pub packed-by-sides : packed golden rects pad ≡ tab k (λ i. rectangleOf (pointAt (placed k column (at ws) pad i) (placed k row (at hs) pad i)) (at ws i) (at hs i))
+    unfolding placedCentre
+    packed-by-sides =
+        packed-is
+        ∙ tab-equal k _ _ (λ i h. rw (s .long, s .wide i h, s .high i h, in-columns i h, in-rows i h))
+
     pub centre-xs : centreXs (packed golden rects pad) ≡ tab k (placed k column (at ws) pad)
     unfolding centreXs placedCentre
-    centre-xs =
-        rw length-packed
-        (tab-equal k _ _ (λ i h. rw (packed-at i h, s .long)
-        (placed-equal k (columnOf (columns k golden) (places rects)) column (widthAt rects) (at ws) pad (λ b g. ap (λ (p : ℕ). p % columns k golden) (listed-place b g)) (s .wide) i h)))
+    centre-xs = rw length-packed (tab-equal k _ _ (λ i h. rw (packed-at i h, s .long) (in-columns i h)))
 
     pub centre-ys : centreYs (packed golden rects pad) ≡ tab k (placed k row (at hs) pad)
     unfolding centreYs placedCentre
-    centre-ys =
-        rw length-packed
-        (tab-equal k _ _ (λ i h. rw (packed-at i h, s .long)
-        (placed-equal k (rowOf (columns k golden) (places rects)) row (heightAt rects) (at hs) pad (λ b g. ap (λ (p : ℕ). p / columns k golden) (listed-place b g)) (s .high) i h)))
+    centre-ys = rw length-packed (tab-equal k _ _ (λ i h. rw (packed-at i h, s .long) (in-rows i h)))
 
   -- ---- what the code finds
   module _ (pad : Float) (areas : List Float) (a : At k areas nan area) (cols rows : List ℕ) (l : Lined k (place k (at areas)) cols rows) where
@@ -193,11 +204,3 @@ module _ (n : ℕ) (ws hs : List Float) (pad : Float) (w : length ws ≡ maxCirc
           let first : refusal ((1, false) ∷ (7, any long (take n ws)) ∷ (7, any long (take n hs)) ∷ (8, badPadding pad) ∷ []) ≡ packRefusal (sided n ws hs) pad =
               either-side false (any long (take n ws)) (any long (take n hs)) (badPadding pad) ∙ rw (sided-sides n ws hs .long, e, any-side l) in
           rw (min-eq-left l) first
-
-  pub accepted-few : sidesNumber n ws hs pad ≡ 0 → n ≤ maxCircles
-  unfolding sidesNumber circleCap
-  accepted-few z = by-test (tooMany n) refl z
-    where
-      by-test : (b : Bool) → tooMany n ≡ b → cond b 1 (packRefusal (sided n ws hs) pad) ≡ 0 → n ≤ maxCircles
-      by-test true e y = absurd (omega arith)
-      by-test false e y = few n e

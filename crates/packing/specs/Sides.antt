@@ -41,3 +41,7 @@ pub record Sides (k : ℕ) (widths heights : List Float) (rects : List Rectangle
   pub long : length rects ≡ k
   pub wide : (i : ℕ) → i < k → widthAt rects i ≡ at widths i
   pub high : (i : ℕ) → i < k → heightAt rects i ≡ at heights i
+
+-- box i of these centres and sides
+abbrev pub boxAt : List Float → List Float → List Float → List Float → ℕ → Rectangle
+boxAt xs ys widths heights i = rectangleOf (pointAt (at xs i) (at ys i)) (at widths i) (at heights i)

@@ -7,13 +7,14 @@ ghost use lib.Dec.{eqb, ltb};
 ghost use lib.ListN.{getD, length};
 ghost use lib.Ieee.{nan, eq};
 ghost use Rattle.scope.specs.Numbers.{_<ᶠ_, _*ᶠ_, nought, golden};
-ghost use Rattle.scope.specs.Refusals.{tooMany, packRefusal};
-ghost use Rattle.scope.specs.Packing.{columns, columnsAnswer, place, breadth, start, centred, placed, packed};
+ghost use Rattle.scope.specs.Runs.{tab, filled};
+ghost use Rattle.scope.specs.Limits.{circleCap};
+ghost use Rattle.scope.specs.Packing.{noRectangle, widthAt, heightAt, columns, columnsAnswer, place, breadth, start, centred, placed, packed};
 ghost use Rattle.promises.proofs.AfterRefusal.{refusedPacking};
 ghost use Rattle.intake.specs.Limits.{maxCircles};
 ghost use Rattle.intake.specs.Columns.{at, overwritten};
 ghost use Rattle.packing.specs.Answers.{counted, packedBoxes};
-ghost use Rattle.packing.specs.Sides.{sided, sidesNumber, sidedPacking, centreXs, centreYs, firstPacking};
+ghost use Rattle.packing.specs.Sides.{sided, sidesNumber, sidedPacking, centreXs, centreYs, firstPacking, boxAt};
 ghost use Rattle.packing.specs.Lists.{At, Lined};
 use intake::causes::number_of;
 use intake::causes::of_count;
@@ -48,6 +49,97 @@ pub fn columns(k: usize) -> ColumnCount
         return ColumnCount::Refused(refusal);
     }
     ColumnCount::Of(columns_of(k))
+}
+
+// Of the boxes only the first n are looked at, and of those only the sides.
+// Refused: too many boxes (1), a side (7), the padding (8).
+pub fn skyline_pack_by_value(rectangles: [Rectangle; MAX_CIRCLES], n: usize, padding: f64) -> Packed
+    ensures { λ r. ⌜ packedBoxes r ≡ firstPacking n rectangles padding ⌝ }
+{
+    let mut widths = [0.0; MAX_CIRCLES];
+    let mut heights = [0.0; MAX_CIRCLES];
+    sides_of(rectangles, room(n), &mut widths, &mut heights);
+    packed_at(&widths, &heights, n, padding)
+}
+
+// The sides of the first m boxes.
+fn sides_of(rectangles: [Rectangle; MAX_CIRCLES], m: usize, widths: &mut [f64], heights: &mut [f64])
+    requires { ⌜ (m ≤ maxCircles) × (length (now widths) ≡ maxCircles) × (length (now heights) ≡ maxCircles) ⌝ }
+    ensures { λ _. ⌜ At m (now (widths .exit)) nan (widthAt rectangles) × At m (now (heights .exit)) nan (heightAt rectangles) ⌝ }
+{
+    let mut i: usize = 0;
+    while i < m {
+        let r = rectangles[i];
+        widths[i] = r.width;
+        heights[i] = r.height;
+        i += 1;
+    }
+}
+
+// The boxes of these sides, placed.
+fn packed_at(
+    widths: &[f64; MAX_CIRCLES],
+    heights: &[f64; MAX_CIRCLES],
+    n: usize,
+    padding: f64,
+) -> Packed
+    ensures { λ r. ⌜ packedBoxes r ≡ sidedPacking n (now (widths .entry)) (now (heights .entry)) padding ⌝ }
+{
+    let mut xs = [0.0; MAX_CIRCLES];
+    let mut ys = [0.0; MAX_CIRCLES];
+    let refusal = pack_sides(widths, heights, n, padding, &mut xs, &mut ys);
+    if refusal != 0 {
+        return refused(refusal);
+    }
+    Packed {
+        refusal: 0,
+        rectangles: boxes_at(widths, heights, &xs, &ys, n),
+    }
+}
+
+fn refused(number: u8) -> Packed
+    ensures { λ r. ⌜ packedBoxes r ≡ refusedPacking number ⌝ }
+{
+    Packed {
+        refusal: number,
+        rectangles: [no_rectangle(); MAX_CIRCLES],
+    }
+}
+
+// What stands where there is no box.
+fn no_rectangle() -> Rectangle
+    ensures { λ r. ⌜ r ≡ noRectangle ⌝ }
+{
+    Rectangle {
+        center: Point { x: 0.0, y: 0.0 },
+        width: 0.0,
+        height: 0.0,
+    }
+}
+
+// n boxes of these sides and centres, and none behind them.
+fn boxes_at(
+    widths: &[f64; MAX_CIRCLES],
+    heights: &[f64; MAX_CIRCLES],
+    xs: &[f64; MAX_CIRCLES],
+    ys: &[f64; MAX_CIRCLES],
+    n: usize,
+) -> [Rectangle; MAX_CIRCLES]
+    requires { ⌜ n ≤ maxCircles ⌝ }
+    ensures { λ r. ⌜ r ≡ filled circleCap noRectangle (tab n (boxAt (now (xs .entry)) (now (ys .entry)) (now (widths .entry)) (now (heights .entry)))) ⌝ }
+{
+    let mut boxes = [no_rectangle(); MAX_CIRCLES];
+    let mut i: usize = 0;
+    while i < n {
+        let r = Rectangle {
+            center: Point { x: xs[i], y: ys[i] },
+            width: widths[i],
+            height: heights[i],
+        };
+        boxes[i] = r;
+        i += 1;
+    }
+    boxes
 }
 
 // Where the centres of n boxes come to stand, by their sides: a refusal's number or 0.

@@ -1,37 +1,31 @@
-use Prim.Native.Nat.{ℕ, suc, _≤_, _<_, _-_, _+_}
-use native.Mathlib.Omega.{arith}
+-- `columns` meets its contract: the refusal, or the table's count.
+use mathlib.Core.Path.{_≡_, sym, ap, _∙_}
 use borrow.Author.Needs.{needs}
-use mathlib.Core.Path.{_≡_, refl, sym, ap, _∙_}
-use mathlib.Core.Bool.{Bool, true, false, not, _&&_, _||_, cond}
-use lib.ListN.{length, getD, set}
-use borrow.Author.Needs.{needs}
+use Rattle.scope.specs.Refusals.{columnsRefusal, given}
+use Rattle.intake.proofs.CauseWords.{number-says}
+use Rattle.packing.proofs.ColumnTable.{columns-refused, columns-given, columns-few}
 use Rattle.packing.proofs.columns.Statement.{statement}
 use Rattle.packing.proofs.columns.Tie as tie
-use Rattle.packing.proofs.columns.Reads as reads
-use Rattle.packing.proofs.columns.Lts as lts
-use Rattle.intake.proofs.causes.number_of.Reads as number-of-reads
-use Rattle.intake.proofs.causes.of_count.Reads as of-count-reads
-use Rattle.packing.proofs.columns_of.Reads as columns-of-reads
 
--- src/lib.rt:46:29
 of-count-requires : tie.Need-of-count-requires
 of-count-requires c κs = search needs
 
--- src/lib.rt:46:9
 number-of-requires : tie.Need-number-of-requires
 number-of-requires c κs = search needs
 
--- src/lib.rt:48:9
 returns : tie.Need-returns
-returns c = ?
+unfolding columnsRefusal
+returns c = let s = c .before in columns-refused _ _ (s .number-of .ensures ∙ number-says _ _ (s .before .of-count .ensures)) (c .if1 .taken)
 
--- src/lib.rt:50:21
 columns-of-requires : tie.Need-columns-of-requires
-columns-of-requires c κs = ?
+unfolding columnsRefusal
+columns-of-requires c κs = let s = c .before in columns-few _ (sym (number-says _ _ (s .before .of-count .ensures)) ∙ sym (s .number-of .ensures) ∙ c .if1 .left)
 
--- src/lib.rt:43:1
 returns-2 : tie.Need-returns-2
-returns-2 c = ?
+unfolding columnsRefusal
+returns-2 c =
+    let s = c .before .before in
+    ap given (c .columns-of .ensures) ∙ columns-given _ (sym (number-says _ _ (s .before .of-count .ensures)) ∙ sym (s .number-of .ensures) ∙ c .before .if1 .left)
 
 pub columns-spec : {M : Type 1} → statement M
 columns-spec =

@@ -2,7 +2,7 @@
 use mathlib.Core.Path.{_≡_, refl, sym, _∙_}
 use borrow.Author.Needs.{needs}
 use borrow.Author.Tests.{ne-eqb}
-use Rattle.packing.proofs.Packings.{accepted-few}
+use Rattle.packing.proofs.PackedBoxes.{accepted-few}
 use Rattle.packing.proofs.pack_lists.Statement.{statement}
 use Rattle.packing.proofs.pack_lists.Tie as tie
 
@@ -16,7 +16,7 @@ in-front-requires : tie.Need-in-front-requires
 in-front-requires c κs =
     let S = c .before .before .before .before .before .before .before .before in
     let s = c .before .before .before in
-    (accepted-few _ _ _ _ (S .pre .0) (S .pre .1) (sym (s .pack-number .ensures) ∙ c .before .before .if1 .left), S .pre .0, S .pre .1, search needs, search needs)
+    (accepted-few _ _ _ _ (sym (s .pack-number .ensures) ∙ c .before .before .if1 .left), S .pre .0, S .pre .1, search needs, search needs)
 
 same-length : tie.Need-same-length
 same-length c = search needs

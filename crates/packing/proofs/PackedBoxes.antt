@@ -1,0 +1,140 @@
+-- The whole answer for boxes of given sides: refused, or the boxes put together again from their sides and the places of their centres.
+use Prim.Native.Nat.{ℕ, zero, suc, _≤_, _<_, min}
+use native.Mathlib.Nat.{min-eq-left}
+use native.Mathlib.Omega.{arith}
+use mathlib.Core.Path.{_≡_, refl, sym, ap, _∙_}
+use mathlib.Core.Logic.{_≢_}
+use mathlib.Core.Bool.{Bool, true, false, not, cond, _||_}
+use mathlib.Core.List.{List, [], _∷_, _++_}
+use lib.Dec.{eqb}
+use borrow.Author.Tests.{eq-eqb}
+use lib.ListN.{length, getD, take, drop, List·getD-append}
+use lib.Seq.{length-take-le, getD-take, ext-getD}
+use lib.Ieee.{Float, nan}
+use Rattle.shapes.specs.declared.geometry.shapes.rectangle.Rectangle.{Rectangle}
+use Rattle.shapes.specs.Records.{pointAt, rectangleOf}
+use Rattle.scope.specs.Numbers.{golden}
+use Rattle.scope.specs.Runs.{tab, filled, any}
+use Rattle.scope.specs.Limits.{circleCap, sideOk}
+use Rattle.scope.specs.Refusals.{tooMany, badSide, packRefusal}
+use Rattle.scope.specs.Packing.{Packing, noRectangle, rectangle, widthAt, heightAt, packed, packing, skylinePack}
+use Rattle.promises.proofs.Runs.{length-tab, getD-tab}
+use Rattle.promises.proofs.AfterRefusal.{refusedPacking}
+use Rattle.intake.specs.Limits.{maxCircles}
+use Rattle.intake.specs.Columns.{at, overwritten}
+use Rattle.intake.proofs.Checking.{few}
+use Rattle.intake.proofs.Columns.{any-either, not-both}
+use Rattle.packing.specs.Sides.{sided, sidesNumber, sidedPacking, firstPacking, centreXs, centreYs, boxAt, Sides}
+use Rattle.packing.specs.Lists.{At}
+use Rattle.packing.proofs.Packings.{sided-sides, length-packed, packed-by-sides, boxed-at}
+
+-- ---- refused or accepted
+by-count : (b : Bool) (k : ℕ) (l : List Rectangle) → cond b (packing 1 []) (packing k l) ≡ packing (cond b 1 k) l
+unfolding packing
+by-count true k l = refl
+by-count false k l = refl
+
+refused-by : (k : ℕ) (l : List Rectangle) → k ≢ 0 → packing k l ≡ refusedPacking k
+unfolding packing
+refused-by zero l h = absurd (h refl)
+refused-by (suc k) l h = refl
+
+module _ (n : ℕ) (ws hs : List Float) (pad : Float) where
+  answered : sidedPacking n ws hs pad ≡ packing (sidesNumber n ws hs pad) (packed golden (sided n ws hs) pad)
+  unfolding sidedPacking sidesNumber skylinePack
+  answered = by-count (tooMany n) (packRefusal (sided n ws hs) pad) (packed golden (sided n ws hs) pad)
+
+  pub sided-refused : sidesNumber n ws hs pad ≢ 0 → sidedPacking n ws hs pad ≡ refusedPacking (sidesNumber n ws hs pad)
+  sided-refused h = answered ∙ refused-by (sidesNumber n ws hs pad) (packed golden (sided n ws hs) pad) h
+
+  pub sided-accepted : sidesNumber n ws hs pad ≡ 0 → sidedPacking n ws hs pad ≡ record { refusal = 0; rectangles = filled circleCap noRectangle (packed golden (sided n ws hs) pad) }
+  unfolding packing
+  sided-accepted h = rw (answered, h)
+
+  pub accepted-few : sidesNumber n ws hs pad ≡ 0 → n ≤ maxCircles
+  unfolding sidesNumber circleCap
+  accepted-few z = by-test (tooMany n) refl z
+    where
+      by-test : (b : Bool) → tooMany n ≡ b → _≡_ {A = ℕ} (cond b 1 (packRefusal (sided n ws hs) pad)) 0 → n ≤ maxCircles
+      by-test true e y = absurd (omega arith)
+      by-test false e y = few n e
+
+  -- ---- the boxes from their sides and the places of their centres
+  abbrev boxes : List Rectangle
+  boxes = packed golden (sided n ws hs) pad
+
+  length-boxes : length boxes ≡ n
+  length-boxes = length-packed n ws hs (sided n ws hs) (sided-sides n ws hs) pad
+
+  front-at : (l m : List Float) (i : ℕ) → i < length l → at (overwritten l m) i ≡ at l i
+  unfolding overwritten
+  front-at l m i h = List·getD-append l (drop (length l) m) nan i h
+
+  module _ (xs ys : List Float) where
+    x-at : (i : ℕ) → i < n → at (overwritten (centreXs boxes) xs) i ≡ rectangle boxes i .center .x
+    unfolding centreXs
+    x-at i h =
+        let long : length (centreXs boxes) ≡ n = length-tab (length boxes) (λ k. rectangle boxes k .center .x) ∙ length-boxes in
+        front-at (centreXs boxes) xs i (rw long h) ∙ getD-tab (length boxes) (λ k. rectangle boxes k .center .x) i nan (rw length-boxes h)
+
+    y-at : (i : ℕ) → i < n → at (overwritten (centreYs boxes) ys) i ≡ rectangle boxes i .center .y
+    unfolding centreYs
+    y-at i h =
+        let long : length (centreYs boxes) ≡ n = length-tab (length boxes) (λ k. rectangle boxes k .center .y) ∙ length-boxes in
+        front-at (centreYs boxes) ys i (rw long h) ∙ getD-tab (length boxes) (λ k. rectangle boxes k .center .y) i nan (rw length-boxes h)
+
+    pub boxes-back : tab n (boxAt (overwritten (centreXs boxes) xs) (overwritten (centreYs boxes) ys) ws hs) ≡ boxes
+    boxes-back =
+        ext-getD noRectangle _ boxes (length-tab n _ ∙ sym length-boxes) (λ i g.
+        let h : i < n = rw (length-tab n (boxAt (overwritten (centreXs boxes) xs) (overwritten (centreYs boxes) ys) ws hs)) at g in
+        let s = sided-sides n ws hs in
+        getD-tab n _ i noRectangle h ∙ rw (x-at i h, y-at i h) (sym (sides-kept i h)))
+      where
+        sides-kept : (i : ℕ) → i < n → rectangle boxes i ≡ rectangleOf (rectangle boxes i .center) (at ws i) (at hs i)
+        sides-kept i h = boxed-at n ws hs (sided n ws hs) (sided-sides n ws hs) pad i h
+
+  -- what the code puts together is the answer
+  pub put-together : (r : ℕ) (xs ys xs′ ys′ : List Float) (rects : List Rectangle) → r ≡ sidesNumber n ws hs pad → r ≡ 0
+      → xs′ ≡ cond (eqb r 0) (overwritten (centreXs boxes) xs) xs → ys′ ≡ cond (eqb r 0) (overwritten (centreYs boxes) ys) ys → rects ≡ filled circleCap noRectangle (tab n (boxAt xs′ ys′ ws hs))
+      → record { refusal = 0; rectangles = rects } ≡ sidedPacking n ws hs pad
+  put-together r xs ys xs′ ys′ rects number none x y e =
+      let yes = eq-eqb r 0 none in
+      let same-x : xs′ ≡ overwritten (centreXs boxes) xs = x ∙ rw yes in
+      let same-y : ys′ ≡ overwritten (centreYs boxes) ys = y ∙ rw yes in
+      ap (λ (l : List Rectangle). record { refusal = 0; rectangles = l }) (e ∙ rw (same-x, same-y, boxes-back xs ys)) ∙ sym (sided-accepted (sym number ∙ none))
+
+-- ---- only the sides matter
+by-lists : {k : ℕ} {ws hs : List Float} (l : List Rectangle) → Sides k ws hs l → any badSide l ≡ any (λ x. not (sideOk x)) (tab k (at ws)) || any (λ x. not (sideOk x)) (tab k (at hs))
+unfolding badSide
+by-lists {k} {ws} {hs} l t =
+    let w = length-tab k (at ws) in
+    any-either badSide (λ x. not (sideOk x)) l noRectangle (tab k (at ws)) (tab k (at hs)) (t .long ∙ sym w) (length-tab k (at hs) ∙ sym w)
+    (λ i h. let g : i < k = rw w at h in rw (t .wide i g, t .high i g, getD-tab k (at ws) i nan g, getD-tab k (at hs) i nan g) (not-both (sideOk (at ws i)) (sideOk (at hs i))))
+
+module _ (k : ℕ) (ws hs : List Float) (rects : List Rectangle) (s : Sides k ws hs rects) (pad : Float) where
+  same-boxes : packed golden rects pad ≡ packed golden (sided k ws hs) pad
+  same-boxes = packed-by-sides k ws hs rects s pad ∙ sym (packed-by-sides k ws hs (sided k ws hs) (sided-sides k ws hs) pad)
+
+  same-side : any badSide rects ≡ any badSide (sided k ws hs)
+  same-side = by-lists rects s ∙ sym (by-lists (sided k ws hs) (sided-sides k ws hs))
+
+  pub packing-by-sides : skylinePack rects pad ≡ skylinePack (sided k ws hs) pad
+  unfolding skylinePack packRefusal
+  packing-by-sides = rw (s .long, sided-sides k ws hs .long, same-side, same-boxes)
+
+-- the first n boxes of an array
+pub first-by-sides : (n : ℕ) (ws hs : List Float) (rects : List Rectangle) (pad : Float) → length rects ≡ maxCircles → At (min n maxCircles) ws nan (widthAt rects) → At (min n maxCircles) hs nan (heightAt rects)
+    → sidedPacking n ws hs pad ≡ firstPacking n rects pad
+unfolding sidedPacking firstPacking circleCap
+first-by-sides n ws hs rects pad long w h = by-test (tooMany n) refl
+  where
+    by-test : (b : Bool) → tooMany n ≡ b → cond b (packing 1 []) (skylinePack (sided n ws hs) pad) ≡ cond b (packing 1 []) (skylinePack (take n rects) pad)
+    by-test true e = refl
+    by-test false e =
+        let l : n ≤ maxCircles = few n e in
+        let all : min n maxCircles ≡ n = min-eq-left l in
+        sym (packing-by-sides n ws hs (take n rects) (record {
+          long = length-take-le n rects (omega arith);
+          wide = λ i g. ap (λ (r : Rectangle). r .width) (getD-take n rects i noRectangle g) ∙ sym (w .is i (omega arith));
+          high = λ i g. ap (λ (r : Rectangle). r .height) (getD-take n rects i noRectangle g) ∙ sym (h .is i (omega arith));
+        }) pad)
