@@ -1,12 +1,13 @@
 -- The circles that lists of numbers show: their count, each of them, and when they are those of a definition by `tab`. Lists that were changed number by number.
-use Prim.Native.Nat.{ℕ, suc, _≤_, _<_}
+use Prim.Native.Nat.{ℕ, suc, _≤_, _<_, min}
+use native.Mathlib.Decide.{decLt}
 use native.Mathlib.Omega.{arith}
 use mathlib.Core.Path.{_≡_, refl, sym, ap, _∙_}
 use mathlib.Core.Logic.{inl, inr, ⊎-elim}
 use mathlib.Core.Bool.{Bool, true, false, not, cond, _&&_, _||_}
 use mathlib.Core.List.{List, append-nil}
-use lib.ListN.{length, getD, take, drop}
-use lib.Seq.{take-length, drop-length, length-take-le, drop-cons, getD-at, ext-getD}
+use lib.ListN.{length, getD, take, drop, length-take}
+use lib.Seq.{take-length, drop-length, length-take-le, drop-cons, getD-at, take-all, ext-getD}
 use lib.Dec.{T}
 use lib.Ieee.{Float, nan}
 use Rattle.shapes.specs.declared.geometry.shapes.circle.Circle.{Circle}
@@ -21,6 +22,7 @@ use Rattle.scope.specs.Gauge.{changed}
 use Rattle.scope.specs.Centring.{allTranslated}
 use Rattle.promises.proofs.Cases.{or-iff}
 use Rattle.promises.proofs.Runs.{length-tab, getD-tab, tab-equal, any-at, someBelow-iff}
+use Rattle.intake.specs.Limits.{maxCircles}
 use Rattle.intake.specs.Columns.{circleOf, at, circlesOf, xsOf, ysOf, radiiOf, each, members, Lifted}
 use Rattle.intake.proofs.InPlace.{so-far, rewritten, all-rewritten}
 
@@ -146,3 +148,21 @@ module _ (xs ys rs : List Float) where
       (λ t. let f = any-at (λ r. not (radiusOk r)) rs nan .0 t in
           let below : f .0 < length xs = rw e at (f .1) in
           any-at badRadius (circlesOf xs ys rs) nowhere .1 (f .0, rw (length-shown xs ys rs) below, rw (shown-at xs ys rs (f .0) below) (f .2)))
+
+-- ---- the circles in the front of three arrays
+module _ (n m : ℕ) (xs ys rs : List Float) (x : length xs ≡ maxCircles) (y : length ys ≡ maxCircles) (r : length rs ≡ maxCircles) (room : m ≡ min n maxCircles) where
+  take-room : (l : List Float) → length l ≡ maxCircles → take m l ≡ take n l
+  take-room l e =
+      elim (decLt n (length l)) [
+        | yes h ↦ let same : m ≡ n = omega arith in rw same
+        | no h ↦ take-all m l (omega arith) ∙ sym (take-all n l (omega arith))
+      ]
+
+  same-front : (l k : List Float) → length l ≡ maxCircles → length k ≡ maxCircles → length (take n l) ≡ length (take n k)
+  same-front l k e f = length-take n l ∙ ap (min n) (e ∙ sym f) ∙ sym (length-take n k)
+
+  pub front-centre : any badCentre (circlesOf (take n xs) (take n ys) (take n rs)) ≡ any (λ v. not (coordinateOk v)) (take m xs) || any (λ v. not (coordinateOk v)) (take m ys)
+  front-centre = any-centre (take n xs) (take n ys) (take n rs) (same-front ys xs y x) ∙ rw (take-room xs x, take-room ys y)
+
+  pub front-radius : any badRadius (circlesOf (take n xs) (take n ys) (take n rs)) ≡ any (λ v. not (radiusOk v)) (take m rs)
+  front-radius = any-radius (take n xs) (take n ys) (take n rs) (same-front rs xs r x) ∙ rw (take-room rs r)

@@ -7,7 +7,9 @@ ghost use lib.ListN.{length};
 ghost use Rattle.scope.specs.Runs.{any, bit};
 ghost use Rattle.scope.specs.Limits.{within, coordinateOk, radiusOk, sideOk};
 ghost use Rattle.scope.specs.Refusals.{causes, first, tooMany, unequal, tooManyRegions, rising, badPoint, badCentre, badRadius, badFactor, badSide, badPadding};
-ghost use Rattle.intake.specs.CauseWords.{Says};
+ghost use Rattle.intake.specs.CauseWords.{Says, circleChecks};
+ghost use Rattle.intake.specs.Limits.{maxCircles};
+use crate::limits::MAX_CIRCLES;
 use crate::limits::MAX_COORDINATE;
 use crate::limits::MAX_SIDE;
 use crate::limits::bad_centre;
@@ -16,6 +18,7 @@ use crate::limits::bad_padding;
 use crate::limits::bad_point;
 use crate::limits::bad_radius;
 use crate::limits::bad_side;
+use crate::limits::room;
 use crate::limits::too_many;
 use crate::limits::too_many_regions;
 use crate::refusals::is_rising;
@@ -131,6 +134,26 @@ pub fn of_sides(list: &[f64]) -> u32
     ensures { λ r. ⌜ Says r ((7, any (λ x. not (sideOk x)) (now (list .entry))) ∷ []) ⌝ }
 {
     flag(any_outside(list, 0.0, MAX_SIDE), 128)
+}
+
+// 1, 3, 4, of circles whose numbers stand in the front of three arrays
+pub fn of_circles(
+    xs: &[f64; MAX_CIRCLES],
+    ys: &[f64; MAX_CIRCLES],
+    radii: &[f64; MAX_CIRCLES],
+    n: usize,
+) -> u32
+    ensures { λ r. ⌜ Says r (circleChecks n (now (xs .entry)) (now (ys .entry)) (now (radii .entry))) ⌝ }
+{
+    of_lists(xs, ys, radii, n)
+}
+
+fn of_lists(xs: &[f64], ys: &[f64], radii: &[f64], n: usize) -> u32
+    requires { ⌜ (length (now xs) ≡ maxCircles) × (length (now ys) ≡ maxCircles) × (length (now radii) ≡ maxCircles) ⌝ }
+    ensures { λ r. ⌜ Says r (circleChecks n (now (xs .entry)) (now (ys .entry)) (now (radii .entry))) ⌝ }
+{
+    let m = room(n);
+    (of_count(n) | (of_coordinates(&xs[0..m]) | of_coordinates(&ys[0..m]))) | of_radii(&radii[0..m])
 }
 
 // Whether a number of the list is not between low and high. A NaN is between no two numbers.
