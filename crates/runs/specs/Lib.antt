@@ -1,0 +1,2 @@
+pub mod Recentred
+pub mod Layouts
