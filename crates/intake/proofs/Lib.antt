@@ -5,3 +5,8 @@ pub mod Checking
 pub mod Loading
 pub mod InPlace
 pub mod Columns
+pub mod Lending
+pub mod NumberArrays
+pub mod TakenCalls
+pub mod Splitting
+pub mod SplitCall

@@ -5,7 +5,7 @@ use crate::lent::join;
 use crate::lent::written;
 use intake::limits::MAX_CIRCLES;
 use intake::limits::too_many;
-use crate::runs::split;
+use intake::runs::split;
 use shapes::geometry::primitives::point::Point;
 use shapes::geometry::shapes::circle::Circle;
 

@@ -37,26 +37,18 @@ use denote.Triple.Spec.{tripleOf}
 use Rattle.shapes.specs.declared.geometry.shapes.circle.Circle.{Circle}
 use Rattle.shapes.proofs.geometry.shapes.circle.Circle as T
 use Rattle.scope.specs.Refusals.{tooMany}
 use Rattle.intake.specs.Limits.{maxCircles}
 use Rattle.intake.specs.Columns.{xsOf, ysOf, radiiOf, overwritten}
-use Rattle.runs.proofs.Lending.{refTo, lent-to-write, written-back, run-to-read, run-read-back}
-use Rattle.runs.proofs.runs.split as split′
-use Rattle.runs.proofs.runs.split.Symbol.{name as #split}
-
-abbrev pub F64s : RattleType
-F64s = Array f64 maxCircles
-
--- the number that `split` answers for n circles
-abbrev pub number : ℕ → ℕ
-number n = cond (tooMany n) 1 0
-
--- an array after `split`, from its column of the run
-abbrev pub splitOf : (List Circle → List Float) → List Circle → List Float → List Float
-splitOf f cs xs = cond (tooMany (length cs)) xs (overwritten (f cs) xs)
+use Rattle.intake.proofs.NumberArrays.{F64s}
+use Rattle.intake.proofs.TakenCalls.{numberOf}
+use Rattle.intake.proofs.Splitting.{splitOf}
+use Rattle.intake.proofs.Lending.{refTo, lent-to-write, written-back, run-to-read, run-read-back}
+use Rattle.intake.proofs.runs.split as split′
+use Rattle.intake.proofs.runs.split.Symbol.{name as #split}
 
 -- what `split` says of its answer and of the last lists
 abbrev Said : List Circle → List Float → List Float → List Float → ℕ → List Float → List Float → List Float → Type 0
-Said cs xs ys rs r xs′ ys′ rs′ = (r ≡ number (length cs)) × (xs′ ≡ splitOf xsOf cs xs) × (ys′ ≡ splitOf ysOf cs ys) × (rs′ ≡ splitOf radiiOf cs rs)
+Said cs xs ys rs r xs′ ys′ rs′ = (r ≡ numberOf (length cs)) × (xs′ ≡ splitOf xsOf cs xs) × (ys′ ≡ splitOf ysOf cs ys) × (rs′ ≡ splitOf radiiOf cs rs)
 
 -- its lifetimes and its arguments
 module _ (cs : List Circle) (xs ys rs : List Float) (b₀ o₀ b₁ b₂ b₃ : ℕ) (ν₀ ν₁ ν₂ ν₃ : ℕ) (γ₀ γ₁ γ₂ γ₃ : GName) where
@@ -94,8 +86,8 @@ module _ {M : Type 1} {𝓤 : URA M} {H : Heap 𝓤} {A : Atoms 𝓤} {K : Type 
   pub splits : K → FmC 𝓤 H (W .laws) C → (at-mem : Memory → SProp 𝓤) (run : Routine → Fun 𝓤) → Triple 𝓤 (C #split) (Split 𝓤 H A at-mem run)
       → (cs : List Circle) (xs ys rs : List Float) (b₀ o₀ b₁ b₂ b₃ : ℕ) → Room T.the-row (length cs)
       → ((p i₀ i₁ i₂ i₃ : Item 𝓤) → Opds K W (p ∷ i₀ ∷ i₁ ∷ i₂ ∷ i₃ ∷ Γ) E os (sliceVal (b₀, o₀) (length cs) ∷ vptr b₁ 0 ∷ vptr b₂ 0 ∷ vptr b₃ 0 ∷ []))
-      → (number (length cs) < 2 ^ 8
-      → Seq K W (‵ (row T.the-row fullShare cs b₀ o₀) ∷ ‵ (partAt F64s fullShare (splitOf xsOf cs xs) b₁ 0) ∷ ‵ (partAt F64s fullShare (splitOf ysOf cs ys) b₂ 0) ∷ ‵ (partAt F64s fullShare (splitOf radiiOf cs rs) b₃ 0) ∷ Γ) (lands C Λ E d (vint w8 (number (length cs))) rest q))
+      → (numberOf (length cs) < 2 ^ 8
+      → Seq K W (‵ (row T.the-row fullShare cs b₀ o₀) ∷ ‵ (partAt F64s fullShare (splitOf xsOf cs xs) b₁ 0) ∷ ‵ (partAt F64s fullShare (splitOf ysOf cs ys) b₂ 0) ∷ ‵ (partAt F64s fullShare (splitOf radiiOf cs rs) b₃ 0) ∷ Γ) (lands C Λ E d (vint w8 (numberOf (length cs))) rest q))
       → Seq K W (‵ (row T.the-row fullShare cs b₀ o₀) ∷ ‵ (partAt F64s fullShare xs b₁ 0) ∷ ‵ (partAt F64s fullShare ys b₂ 0) ∷ ‵ (partAt F64s fullShare rs b₃ 0) ∷ Γ) (runs C Λ E (seq (call #split os d) rest) q)
   splits t fm at-mem run known cs xs ys rs b₀ o₀ b₁ b₂ b₃ g reads k =
       run-to-read t tt T.the-row (named 0) cs b₀ o₀ g (λ ν₀ γ₀.

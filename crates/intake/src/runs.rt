@@ -3,9 +3,9 @@ ghost use mathlib.Core.Path.{_≡_};
 ghost use mathlib.Core.Bool.{cond};
 ghost use lib.ListN.{length};
 ghost use Rattle.scope.specs.Refusals.{tooMany};
 ghost use Rattle.intake.specs.Columns.{xsOf, ysOf, radiiOf, overwritten};
-use intake::limits::MAX_CIRCLES;
-use intake::limits::too_many;
+use crate::limits::MAX_CIRCLES;
+use crate::limits::too_many;
 use shapes::geometry::primitives::point::Point;
 use shapes::geometry::shapes::circle::Circle;
 use shapes::geometry::shapes::rectangle::Rectangle;
@@ -32,13 +32,13 @@ pub fn split(
 }
 
 // How many of n records are taken: all, or none where there are too many.
-fn taken(n: usize) -> usize
+pub(crate) fn taken(n: usize) -> usize
     ensures { λ r. ⌜ r ≡ cond (tooMany n) 0 n ⌝ }
 {
     if too_many(n) { 0 } else { n }
 }
 
-fn count_refusal(n: usize) -> u8
+pub(crate) fn count_refusal(n: usize) -> u8
     ensures { λ r. ⌜ r ≡ cond (tooMany n) 1 0 ⌝ }
 {
     if too_many(n) { 1 } else { 0 }
