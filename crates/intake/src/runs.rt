@@ -3,7 +3,7 @@ ghost use mathlib.Core.Path.{_≡_};
 ghost use mathlib.Core.Bool.{cond};
 ghost use lib.ListN.{length};
 ghost use Rattle.scope.specs.Refusals.{tooMany};
-ghost use Rattle.intake.specs.Columns.{xsOf, ysOf, radiiOf, overwritten};
+ghost use Rattle.intake.specs.Columns.{xsOf, ysOf, radiiOf, widthsOf, heightsOf, overwritten};
 use crate::limits::MAX_CIRCLES;
 use crate::limits::too_many;
 use shapes::geometry::primitives::point::Point;
@@ -29,6 +29,21 @@ pub fn split(
         i = i + 1;
     }
     count_refusal(circles.len())
+}
+
+// The sides of a run of boxes.
+pub fn split_sides(rectangles: &[Rectangle], widths: &mut [f64; MAX_CIRCLES], heights: &mut [f64; MAX_CIRCLES]) -> u8
+    ensures { λ r. ⌜ (r ≡ cond (tooMany (length (now (rectangles .entry)))) 1 0) × (now (widths .exit) ≡ cond (tooMany (length (now (rectangles .entry)))) (now (widths .entry)) (overwritten (widthsOf (now (rectangles .entry))) (now (widths .entry)))) × (now (heights .exit) ≡ cond (tooMany (length (now (rectangles .entry)))) (now (heights .entry)) (overwritten (heightsOf (now (rectangles .entry))) (now (heights .entry)))) ⌝ }
+{
+    let end = taken(rectangles.len());
+    let mut i: usize = 0;
+    while i < end {
+        let r = rectangles[i];
+        widths[i] = r.width;
+        heights[i] = r.height;
+        i = i + 1;
+    }
+    count_refusal(rectangles.len())
 }
 
 // How many of n records are taken: all, or none where there are too many.
