@@ -37,8 +37,8 @@ use Rattle.shapes.specs.declared.geometry.shapes.circle.Circle.{Circle}
 use Rattle.shapes.proofs.geometry.shapes.circle.Circle as T
 use Rattle.intake.specs.Limits.{maxCircles}
 use Rattle.runs.specs.Recentred.{recentred, writtenOf}
-use Rattle.runs.proofs.Lending.{refTo, lent-to-read, read-back, run-to-write, run-written-back}
-use Rattle.runs.proofs.SplitCall.{F64s}
+use Rattle.intake.proofs.Lending.{refTo, lent-to-read, read-back, run-to-write, run-written-back}
+use Rattle.intake.proofs.NumberArrays.{F64s}
 use Rattle.runs.proofs.lent.join as join′
 use Rattle.runs.proofs.lent.join.Symbol.{name as #join}
 use Rattle.runs.proofs.lent.written as written′

@@ -9,8 +9,8 @@ use Rattle.intake.specs.Columns.{xsOf, ysOf, radiiOf}
 use Rattle.runs.specs.Recentred.{recentred, writtenOf}
 use Rattle.runs.specs.Layouts.{Laid, Lays}
 use Rattle.runs.specs.declared.normalize.Result.{Result}
-use Rattle.runs.proofs.NumberArrays.{blanks}
-use Rattle.runs.proofs.SplitCall.{splitOf}
+use Rattle.intake.proofs.NumberArrays.{blanks}
+use Rattle.intake.proofs.Splitting.{splitOf}
 
 module _ (cs : List Circle) (factor : Float) (masks : List ℕ) (areas : List Float) (r : Result) (xs′ ys′ : List Float)
     (e : Laid (splitOf xsOf cs (blanks maxCircles)) (splitOf ysOf cs (blanks maxCircles)) (splitOf radiiOf cs (blanks maxCircles)) (length cs) factor masks areas r xs′ ys′) where

@@ -1,18 +1,18 @@
 -- A run whose first centres are written over: none, all of them, and how many.
 use Prim.Native.Nat.{ℕ, zero, suc, _+_, _<_, _≤_}
 use native.Mathlib.Omega.{arith}
-use native.Mathlib.Numerals.{add-one}
 use mathlib.Core.Path.{_≡_, refl, sym, ap, _∙_}
-use mathlib.Core.List.{List, [], _∷_, _++_, append-nil}
+use mathlib.Core.List.{List, [], _++_, append-nil}
 use lib.Ieee.{Float, nan}
 use lib.ListN.{length, getD, set, take, drop}
 use lib.Seq.{drop-length, getD-take, length-take-le}
 use Rattle.shapes.specs.declared.geometry.shapes.circle.Circle.{Circle}
 use Rattle.scope.specs.Runs.{tab}
-use Rattle.scope.specs.Links.{circle}
+use Rattle.scope.specs.Links.{circle, nowhere}
 use Rattle.promises.proofs.Runs.{length-tab, tab-equal}
 use Rattle.intake.specs.Columns.{circleOf, at, circlesOf, radiiOf}
 use Rattle.intake.proofs.Columns.{shown-equal, radius-at}
+use Rattle.intake.proofs.InPlace.{over-length, rewritten, so-far, none-rewritten, one-rewritten, all-rewritten}
 use Rattle.runs.specs.Recentred.{recentred, writtenOf}
 
 pub written-all : (refusal n : ℕ) → refusal ≡ 0 → writtenOf refusal n ≡ n
@@ -37,3 +37,31 @@ recentred-all n xs ys cs e hx hy =
     rw none-left
     (append-nil (tab n (λ i. circleOf (at xs i) (at ys i) (circle cs i .radius))) ∙ sym (shown-equal (take n xs) (take n ys) (radiiOf cs) n (λ i. circleOf (at xs i) (at ys i) (circle cs i .radius)) (length-take-le n xs hx)
     (λ i h. rw (getD-take n xs i nan h, getD-take n ys i nan h, radius-at cs i (omega arith)))))
+
+-- ---- the loop that writes them: the run after i turns, and at the end
+module _ (xs ys : List Float) where
+  -- a circle at the centre of place i
+  abbrev pub recentre : ℕ → Circle → Circle
+  recentre i c = circleOf (at xs i) (at ys i) (c .radius)
+
+  abbrev pub reached : List Circle → ℕ → List Circle
+  reached cs i = so-far recentre nowhere i cs
+
+  pub reached-none : (cs : List Circle) → cs ≡ reached cs 0
+  reached-none cs = none-rewritten recentre nowhere cs
+
+  pub reached-length : (cs : List Circle) (i : ℕ) → i ≤ length cs → length (reached cs i) ≡ length cs
+  unfolding so-far
+  reached-length cs i h = over-length i (rewritten recentre nowhere cs) cs (rw (length-tab (length cs) (λ k. recentre k (circle cs k))) h) h
+
+  pub reached-within : (cs : List Circle) (i : ℕ) → i < length cs → i < length (reached cs i)
+  reached-within cs i h = rw (reached-length cs i (omega arith)) h
+
+  pub reached-next : (cs : List Circle) (i : ℕ) → i < length cs → set (reached cs i) i (recentre i (getD (reached cs i) i nowhere)) ≡ reached cs (i + 1)
+  reached-next cs i h = one-rewritten recentre nowhere cs i h refl refl
+
+  pub reached-all : (cs : List Circle) (n : ℕ) → n ≤ length cs → reached cs n ≡ recentred n xs ys cs
+  unfolding recentred
+  reached-all cs n h =
+      let first = tab-equal n (λ k. recentre k (circle (take n cs) k)) (λ k. recentre k (circle cs k)) (λ k hk. ap (recentre k) (getD-take n cs k nowhere hk)) in
+      all-rewritten recentre nowhere cs n n h (omega arith) (omega arith) refl ∙ rw (length-take-le n cs h) (ap {B = List Circle} (λ l. l ++ drop n cs) first)

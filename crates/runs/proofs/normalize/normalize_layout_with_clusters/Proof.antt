@@ -52,16 +52,17 @@ use Rattle.intake.specs.Columns.{xsOf, ysOf, radiiOf}
 use Rattle.runs.specs.Recentred.{recentred, writtenOf}
 use Rattle.runs.specs.Layouts.{Laid, Lays}
 use Rattle.runs.specs.declared.normalize.Result.{Result}
-use Rattle.runs.proofs.Lending.{refTo, lent-to-write, written-back, lent-to-read, read-back}
-use Rattle.runs.proofs.NumberArrays.{blank, blanks, blank-is, numbersTy, same-typed, same-lies, array-room}
-use Rattle.runs.proofs.SplitCall.{F64s, splitOf, Split, splits}
+use Rattle.intake.proofs.Lending.{refTo, lent-to-write, written-back, lent-to-read, read-back}
+use Rattle.intake.proofs.NumberArrays.{F64s, blank, blanks, blank-is, numbersTy, same-typed, same-lies, array-room}
+use Rattle.intake.proofs.Splitting.{splitOf}
+use Rattle.intake.proofs.SplitCall.{Split, splits}
 use Rattle.runs.proofs.JoinCall.{Join, Written, joins, counts}
 use Rattle.runs.proofs.Layouts.{laid-fits, laid-lays}
 use Rattle.runs.proofs.normalize.Result as R
 use Rattle.runs.proofs.normalize.Result.Laws as R′
-use Rattle.runs.proofs.runs.split.Symbol as split-def
-use Rattle.runs.proofs.runs.split.Symbol.{name as #split}
-use Rattle.runs.proofs.runs.split.Met as split-thm
+use Rattle.intake.proofs.runs.split.Symbol as split-def
+use Rattle.intake.proofs.runs.split.Symbol.{name as #split}
+use Rattle.intake.proofs.runs.split.Met as split-thm
 use Rattle.runs.proofs.normalize.laid as core
 use Rattle.runs.proofs.normalize.laid.Symbol as core-def
 use Rattle.runs.proofs.normalize.laid.Symbol.{name as #core}
@@ -273,7 +274,7 @@ normalize-layout-with-clusters-spec 𝓤 H 𝓜 𝓖 𝓡 =
     entered 𝓤 H (tripleOf 𝓤 H (𝓖 .A) thin.signature (thin.spec 𝓤 H (𝓖 .A) (𝓜 .mem) (𝓡 .run)))
     (tables 𝓤 H 𝓜 𝓡 code.env .C) (tables 𝓤 H 𝓜 𝓡 code.env .Λ) #call code.function (code.unfolded 𝓤 H 𝓜 𝓡)
     (thin-meets 𝓤 H (𝓖 .A) (givenOf 𝓤 H 𝓜 𝓖) (𝓜 .mem) (𝓡 .run) (tablesOf 𝓤 H 𝓜 (tables 𝓤 H 𝓜 𝓡 code.env))
-    (cited 𝓤 H (Split 𝓤 H (𝓖 .A) (𝓜 .mem) (𝓡 .run)) 𝓜 𝓡 code.env #split split-def.routine code.calls-runs·runs·split (split-thm.met 𝓤 H 𝓜 𝓖 𝓡))
+    (cited 𝓤 H (Split 𝓤 H (𝓖 .A) (𝓜 .mem) (𝓡 .run)) 𝓜 𝓡 code.env #split split-def.routine code.calls-intake·runs·split (split-thm.met 𝓤 H 𝓜 𝓖 𝓡))
     (cited 𝓤 H (Core 𝓤 H (𝓖 .A) (𝓜 .mem) (𝓡 .run)) 𝓜 𝓡 code.env #core core-def.routine code.calls-runs·normalize·laid (core-thm.met 𝓤 H 𝓜 𝓖 𝓡))
     (cited 𝓤 H (Written 𝓤 H (𝓖 .A) (𝓜 .mem) (𝓡 .run)) 𝓜 𝓡 code.env #written written-def.routine code.calls-runs·lent·written (written-thm.met 𝓤 H 𝓜 𝓖 𝓡))
     (cited 𝓤 H (Join 𝓤 H (𝓖 .A) (𝓜 .mem) (𝓡 .run)) 𝓜 𝓡 code.env #join join-def.routine code.calls-runs·lent·join (join-thm.met 𝓤 H 𝓜 𝓖 𝓡)))
