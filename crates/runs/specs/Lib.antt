@@ -1,2 +1,3 @@
 pub mod Recentred
+pub mod Answered
 pub mod Layouts

@@ -1,5 +1,7 @@
 // Layouts brought to a standard place.
 ghost use mathlib.Core.Path.{_≡_};
+ghost use mathlib.Core.Bool.{cond};
+ghost use Rattle.scope.specs.Refusals.{tooMany};
 ghost use Rattle.runs.specs.Layouts.{Laid, Lays};
 use crate::lent::join;
 use crate::lent::written;
@@ -46,6 +48,7 @@ fn laid(xs: &mut [f64; MAX_CIRCLES], ys: &mut [f64; MAX_CIRCLES], radii: &[f64; 
 }
 
 fn number_of(n: usize) -> u8
+    ensures { λ r. ⌜ r ≡ cond (tooMany n) 1 0 ⌝ }
 {
     if too_many(n) { 1 } else { 0 }
 }
