@@ -10,3 +10,4 @@ pub mod NumberArrays
 pub mod TakenCalls
 pub mod Splitting
 pub mod SplitCall
+pub mod SidesCall

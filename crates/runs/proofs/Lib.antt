@@ -3,3 +3,5 @@ pub mod JoinCall
 pub mod Answered
 pub mod StandIns
 pub mod Layouts
+pub mod RunClusters
+pub mod RunPacking

@@ -17,9 +17,12 @@ first-few : {A : Type 0} (n : ℕ) (l : List A) → tooMany n ≡ false → tooM
 unfolding tooMany
 first-few n l h = let room : n ≤ circleCap = ltb-false circleCap n h in le-ltb circleCap (length (take n l)) (rw length-take (omega arith))
 
-pub first-numbered : (n : ℕ) (xs ys rs : List Float) → numberOf n ≡ unlessMany n 1 (numberOf (length (firstShown n xs ys rs)))
-first-numbered n xs ys rs = by-count (tooMany n) refl
+pub first-numbered : {A : Type 0} (n : ℕ) (l : List A) → numberOf n ≡ unlessMany n 1 (numberOf (length (take n l)))
+first-numbered n l = by-count (tooMany n) refl
   where
-    by-count : (b : Bool) → tooMany n ≡ b → numberOf n ≡ unlessMany n 1 (numberOf (length (firstShown n xs ys rs)))
+    by-count : (b : Bool) → tooMany n ≡ b → numberOf n ≡ unlessMany n 1 (numberOf (length (take n l)))
     by-count true h = rw h
-    by-count false h = rw (h, length-shown (take n xs) (take n ys) (take n rs), first-few n xs h)
+    by-count false h = rw (h, first-few n l h)
+
+pub first-shown-numbered : (n : ℕ) (xs ys rs : List Float) → numberOf n ≡ unlessMany n 1 (numberOf (length (firstShown n xs ys rs)))
+first-shown-numbered n xs ys rs = rw (length-shown (take n xs) (take n ys) (take n rs)) (first-numbered n xs)

@@ -2,7 +2,7 @@
 ghost use mathlib.Core.Path.{_≡_};
 ghost use mathlib.Core.Bool.{cond};
 ghost use Rattle.scope.specs.Refusals.{tooMany};
-ghost use Rattle.runs.specs.Layouts.{Laid, Lays};
+ghost use Rattle.runs.specs.Layouts.{Laid, Lays, Settled, Settles};
 use crate::lent::join;
 use crate::lent::written;
 use intake::limits::MAX_CIRCLES;
@@ -10,6 +10,7 @@ use intake::limits::too_many;
 use intake::runs::split;
 use shapes::geometry::primitives::point::Point;
 use shapes::geometry::shapes::circle::Circle;
+use shapes::geometry::shapes::rectangle::Rectangle;
 
 pub struct Result {
     pub refusal: u8,
@@ -33,6 +34,33 @@ pub fn normalize_layout_with_clusters(circles: &mut [Circle], factor: f64, masks
     r
 }
 
+pub struct Placed {
+    pub refusal: u8,
+    pub container: Rectangle,
+}
+
+// A refused call leaves the run as it was.
+pub fn normalize_layout_with_container(circles: &mut [Circle], container: Rectangle) -> Placed
+    ensures { λ r. ⌜ Settles (now (circles .entry)) container r (now (circles .exit)) ⌝ }
+{
+    let mut xs = [0.0; MAX_CIRCLES];
+    let mut ys = [0.0; MAX_CIRCLES];
+    let mut radii = [0.0; MAX_CIRCLES];
+    let n = circles.len();
+    split(circles, &mut xs, &mut ys, &mut radii);
+    let r = settled_at(&mut xs, &mut ys, &radii, n, container);
+    join(circles, &xs, &ys, written(r.refusal, n));
+    r
+}
+
+// Stands for the core.
+fn settled_at(xs: &mut [f64; MAX_CIRCLES], ys: &mut [f64; MAX_CIRCLES], radii: &[f64; MAX_CIRCLES], n: usize, container: Rectangle) -> Placed
+    ensures { λ r. ⌜ Settled (now (xs .entry)) (now (ys .entry)) (now (radii .entry)) n container r (now (xs .exit)) (now (ys .exit)) ⌝ }
+{
+    let refusal = number_of(n);
+    Placed { refusal, container }
+}
+
 // Stands for the core.
 fn laid(xs: &mut [f64; MAX_CIRCLES], ys: &mut [f64; MAX_CIRCLES], radii: &[f64; MAX_CIRCLES], n: usize, factor: f64, masks: &[u64], areas: &[f64]) -> Result
     ensures { λ r. ⌜ Laid (now (xs .entry)) (now (ys .entry)) (now (radii .entry)) n factor (now (masks .entry)) (now (areas .entry)) r (now (xs .exit)) (now (ys .exit)) ⌝ }
@@ -47,7 +75,7 @@ fn laid(xs: &mut [f64; MAX_CIRCLES], ys: &mut [f64; MAX_CIRCLES], radii: &[f64; 
     }
 }
 
-fn number_of(n: usize) -> u8
+pub(crate) fn number_of(n: usize) -> u8
     ensures { λ r. ⌜ r ≡ cond (tooMany n) 1 0 ⌝ }
 {
     if too_many(n) { 1 } else { 0 }

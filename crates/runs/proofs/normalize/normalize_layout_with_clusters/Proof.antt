@@ -25,10 +25,10 @@ use types.Run.{look, init, forget, stop, hop, fld, from, load, addr, and-then, n
 use sound.WpLaws.{fmOf, WpFn-mono}
 use denote.RattleType.{owns}
 use denote.Shadow.{pureI}
-use denote.Builtin.{u64, f64, usize}
 use denote.Laws.{Is, shows}
 use denote.Memory.{partAt}
 use denote.Plain.{uint-makes}
+use denote.Builtin.{u64, f64, usize}
 use denote.Floats.{float-vals, float-tells, float-lawful, float-copy}
 use denote.Ref.{RefT, MutRef, ShrRef}
 use denote.Slice.{sliceVal, MutSlice, ShrSlice, heres, Room, slice-vals, mut-slice-tells, shr-slice-tells, shr-slice-copy, at-slice, codedHoleys}
@@ -214,17 +214,18 @@ module _ {M : Type 1} (𝓤 : URA M) (H : Heap 𝓤) (A : Atoms 𝓤) (W : Given
         assigns ! (addr ! (from ! (stop !))) (from ! (stop !)) (init ! 22 refl (tt, tt)) $ assigns ! (addr ! (from ! (stop !))) (from ! (stop !)) (init ! 20 refl (tt, tt)) $ assigns ! (addr ! (from ! (stop !))) (from ! (stop !)) (init ! 18 refl (tt, tt)) $
         -- the borrow of the run is opened, and the arrays are what is lent
         move ! (51 ∷ []) $ fsplit ! $ fsplit ! $ move ! (1 ∷ []) $ fsplit ! $ move ! (54 ∷ []) $ split ! $ move ! (2 ∷ 3 ∷ 0 ∷ []) $ opens-slice ! tt T.the-row ys b o $
-        move ! (41 ∷ []) $ use1 W (‵ (partAt F64s fullShare zeros l₇ 0)) (same-lies 𝓤 H A W maxCircles blank blank-is l₇ 0) $ move ! (43 ∷ []) $ use1 W (‵ (partAt F64s fullShare zeros l₆ 0)) (same-lies 𝓤 H A W maxCircles blank blank-is l₆ 0) $ move ! (45 ∷ []) $ use1 W (‵ (partAt F64s fullShare zeros l₅ 0)) (same-lies 𝓤 H A W maxCircles blank blank-is l₅ 0) $
-        -- [X; Y; Z; row; obor; obs; auth; toks; fact; Rest]
-        move ! (3 ∷ 0 ∷ 1 ∷ 2 ∷ []) $ splits ! (fmOf 𝓤 H (W .laws) 𝓣) at-mem run known-split ys zeros zeros zeros b o l₅ l₆ l₇ gn (λ p i₀ i₁ i₂ i₃. (and-then ! (load ! (from ! (stop !)) (look ! 35 refl)) (and-then ! (load ! (from ! (stop !)) (look ! 33 refl)) (and-then ! (load ! (from ! (stop !)) (look ! 31 refl)) (and-then ! (load ! (from ! (stop !)) (look ! 29 refl)) (no-more !)))))) (λ small. land ! (from ! (stop !)) (init ! 38 refl (tt, record { fits = small })) $
-        -- [row; X; Y; Z; obor; obs; auth; toks; fact; Rest]
+        move ! (41 ∷ []) $ use1 W (‵ (partAt F64s fullShare zeros l₇ 0)) (same-lies 𝓤 H A W maxCircles blank blank-is l₇ 0) $
+        move ! (43 ∷ []) $ use1 W (‵ (partAt F64s fullShare zeros l₆ 0)) (same-lies 𝓤 H A W maxCircles blank blank-is l₆ 0) $
+        move ! (45 ∷ []) $ use1 W (‵ (partAt F64s fullShare zeros l₅ 0)) (same-lies 𝓤 H A W maxCircles blank blank-is l₅ 0) $
+        move ! (3 ∷ 0 ∷ 1 ∷ 2 ∷ []) $
+        splits ! (fmOf 𝓤 H (W .laws) 𝓣) at-mem run known-split ys zeros zeros zeros b o l₅ l₆ l₇ gn (λ p i₀ i₁ i₂ i₃. (and-then ! (load ! (from ! (stop !)) (look ! 35 refl)) (and-then ! (load ! (from ! (stop !)) (look ! 33 refl)) (and-then ! (load ! (from ! (stop !)) (look ! 31 refl)) (and-then ! (load ! (from ! (stop !)) (look ! 29 refl)) (no-more !)))))) (λ small.
+        land ! (from ! (stop !)) (init ! 38 refl (tt, record { fits = small })) $
         assigns ! (addr ! (from ! (stop !))) (from ! (stop !)) (init ! 26 refl (tt, tt)) $ assigns ! (addr ! (from ! (stop !))) (from ! (stop !)) (init ! 24 refl (tt, tt)) $ assigns ! (addr ! (from ! (stop !))) (from ! (stop !)) (init ! 22 refl (tt, tt)) $
-        -- the core
+        -- the core: the first two arrays are lent to be written, the third to be read
         move ! (9 ∷ []) $ use1 W (‵ Rest ⊛ ‵ Rest) twice-rest $ split ! $ move ! (3 ∷ []) $ lent-to-write ! tt F64s (named 0) (splitOf xsOf ys zeros) l₅ 0 (λ ν₀ δ₀.
         move ! (6 ∷ []) $ lent-to-write ! tt F64s (named 1) (splitOf ysOf ys zeros) l₆ 0 (λ ν₁ δ₁.
         move ! (9 ∷ []) $ lent-to-read ! tt F64s (named 2) (splitOf radiiOf ys zeros) l₇ 0 (λ ν₂ δ₂.
         move ! (6 ∷ 7 ∷ 3 ∷ 4 ∷ 0 ∷ 1 ∷ 15 ∷ 10 ∷ []) $ group ! 8 $ use1 W (raw (Core 𝓤 H A at-mem run .pre (to-core l₅ l₆ l₇ ν₀ ν₁ ν₂ δ₀ δ₁ δ₂))) (goes-core l₅ l₆ l₇ ν₀ ν₁ ν₂ δ₀ δ₁ δ₂) $
-        -- [pre; k2; k1; k0; Rest; row; obor; obs; auth; fact]
         calls-at ! (fmOf 𝓤 H (W .laws) 𝓣) (Core 𝓤 H A at-mem run) known-core (to-core l₅ l₆ l₇ ν₀ ν₁ ν₂ δ₀ δ₁ δ₂) (and-then ! (load ! (from ! (stop !)) (look ! 26 refl)) (and-then ! (load ! (from ! (stop !)) (look ! 24 refl)) (and-then ! (load ! (from ! (stop !)) (look ! 22 refl)) (and-then ! (load ! (from ! (stop !)) (look ! 42 refl)) (and-then ! (load ! (from ! (stop !)) (look ! 51 refl)) (and-then ! (load ! (from ! (stop !)) (look ! 49 refl)) (and-then ! (load ! (from ! (stop !)) (look ! 47 refl)) (no-more !)))))))) (λ v.
         use1 W (later (some (λ (r : Result). (core-toks l₅ l₆ l₇ ν₀ ν₁ ν₂ δ₀ δ₁ δ₂ ⊛ ‵ (R.the-row .own r (v ∷ []))) ⊛ raw (ensured 𝓤 H A core.ended (core.clauses 𝓤 H A at-mem run) (core-lfts l₅ l₆ l₇ ν₀ ν₁ ν₂ δ₀ δ₁ δ₂) (core-args l₅ l₆ l₇ ν₀ ν₁ ν₂ δ₀ δ₁ δ₂) tt r)))) (id⊢ 𝓤 _) $ await ! tt $ pick ! (λ r.
         split ! $ move ! (1 ∷ []) $ use1 W (some (λ (ws : Lasts core.ended (core-lfts l₅ l₆ l₇ ν₀ ν₁ ν₂ δ₀ δ₁ δ₂) (core-args l₅ l₆ l₇ ν₀ ν₁ ν₂ δ₀ δ₁ δ₂)). ‵ (lasts core.ended (core-lfts l₅ l₆ l₇ ν₀ ν₁ ν₂ δ₀ δ₁ δ₂) (core-args l₅ l₆ l₇ ν₀ ν₁ ν₂ δ₀ δ₁ δ₂) ws) ⊛ raw (fact 𝓤 (Solved r (ws .0) (ws .1 .0))))) (id⊢ 𝓤 _) $ pick ! (λ ws.
@@ -233,20 +234,25 @@ module _ {M : Type 1} (𝓤 : URA M) (H : Heap 𝓤) (A : Atoms 𝓤) (W : Given
         land ! (from ! (stop !)) (init ! 43 refl (typed r _ is)) $ rewrite ! 43 (λ (u : Val). ‵ (fat fullShare R′.mir l₉ 0 u)) (mach-of r v is) refl $ drop ! $
         split ! $ move ! (1 ∷ []) $ split ! $ move ! (1 ∷ []) $ split ! $
         move ! (3 ∷ 8 ∷ 5 ∷ []) $ written-back ! tt F64s (ws .0) l₅ 0 $ move ! (3 ∷ 6 ∷ 4 ∷ []) $ written-back ! tt F64s (ws .1 .0) l₆ 0 $ move ! (2 ∷ 4 ∷ []) $ read-back ! tt F64s (splitOf radiiOf ys zeros) l₇ 0 $
-        -- [Z; Y; X; toks; Rest; row; obor; obs; auth; fact]
         move ! (2 ∷ []) $ array-long ! maxCircles (ws .0) l₅ 0 (λ long-x. move ! (2 ∷ []) $ array-long ! maxCircles (ws .1 .0) l₆ 0 (λ long-y.
+        -- what is written back
         assigns ! (addr ! (from ! (fld ! refl (hop ! (look-in ! 53 (sub ! 0 refl (whole !))) (stop !))))) (from ! (stop !)) (init ! 18 refl (tt, tt)) $
         assigns ! (agg ! (and-then ! (load ! (from ! (stop !)) (look ! 18 refl)) (and-then ! (load ! (from ! (fld ! refl (stop !))) (look-in ! 53 (sub ! 1 refl (whole !)))) (no-more !)))) (from ! (stop !)) (init ! 16 refl (tt, (tt, (record { fits = gn .0 }, tt)))) $
         assigns ! (addr ! (from ! (stop !))) (from ! (stop !)) (init ! 14 refl (tt, tt)) $ assigns ! (addr ! (from ! (stop !))) (from ! (stop !)) (init ! 12 refl (tt, tt)) $
-        counts ! (fmOf 𝓤 H (W .laws) 𝓣) at-mem run known-written (r .refusal) n (small-refusal r is) (gn .0) (λ p. (and-then ! (load ! (from ! (fld ! refl (stop !))) (look-in ! 41 (sub ! 0 refl (whole !)))) (and-then ! (load ! (from ! (stop !)) (look ! 43 refl)) (no-more !)))) (λ few. land ! (from ! (stop !)) (init ! 10 refl (tt, record { fits = few })) $
-        move ! (5 ∷ 1 ∷ 0 ∷ []) $ joins ! (fmOf 𝓤 H (W .laws) 𝓣) at-mem run known-join ys (ws .0) (ws .1 .0) (writtenOf (r .refusal) n) b o l₅ l₆ gn few (fits-of r (ws .0) (ws .1 .0) e) (λ p i₀ i₁ i₂. (and-then ! (load ! (from ! (stop !)) (look ! 17 refl)) (and-then ! (load ! (from ! (stop !)) (look ! 15 refl)) (and-then ! (load ! (from ! (stop !)) (look ! 13 refl)) (and-then ! (load ! (from ! (stop !)) (look ! 11 refl)) (no-more !)))))) (λ zs long said. land ! (from ! (stop !)) (init ! 20 refl (tt, tt)) $
+        counts ! (fmOf 𝓤 H (W .laws) 𝓣) at-mem run known-written (r .refusal) n (small-refusal r is) (gn .0) (λ p. (and-then ! (load ! (from ! (fld ! refl (stop !))) (look-in ! 41 (sub ! 0 refl (whole !)))) (and-then ! (load ! (from ! (stop !)) (look ! 43 refl)) (no-more !)))) (λ few.
+        land ! (from ! (stop !)) (init ! 10 refl (tt, record { fits = few })) $
+        move ! (5 ∷ 1 ∷ 0 ∷ []) $ joins ! (fmOf 𝓤 H (W .laws) 𝓣) at-mem run known-join ys (ws .0) (ws .1 .0) (writtenOf (r .refusal) n) b o l₅ l₆ gn few (fits-of r (ws .0) (ws .1 .0) e) (λ p i₀ i₁ i₂. (and-then ! (load ! (from ! (stop !)) (look ! 17 refl)) (and-then ! (load ! (from ! (stop !)) (look ! 15 refl)) (and-then ! (load ! (from ! (stop !)) (look ! 13 refl)) (and-then ! (load ! (from ! (stop !)) (look ! 11 refl)) (no-more !)))))) (λ zs long said.
+        land ! (from ! (stop !)) (init ! 20 refl (tt, tt)) $
         assigns ! (of-opd ! (load ! (from ! (stop !)) (look ! 40 refl))) (from ! (stop !)) (init ! 55 refl (typed r _ (is-mach r v is))) $
         move ! (0 ∷ 6 ∷ 7 ∷ 8 ∷ []) $ closes-slice ! tt T.the-row ys zs long b o $
         returns ! (look ! 54 refl) $
-        move ! (5 ∷ []) $ use1 W (‵ (froom (numbersTy maxCircles) l₇ 0)) (array-room 𝓤 H A W maxCircles (splitOf radiiOf ys zeros) l₇ 0) $ move ! (5 ∷ []) $ use1 W (‵ (froom (numbersTy maxCircles) l₆ 0)) (array-room 𝓤 H A W maxCircles (ws .1 .0) l₆ 0) $ move ! (5 ∷ []) $ use1 W (‵ (froom (numbersTy maxCircles) l₅ 0)) (array-room 𝓤 H A W maxCircles (ws .0) l₅ 0) $
+        move ! (5 ∷ []) $ use1 W (‵ (froom (numbersTy maxCircles) l₇ 0)) (array-room 𝓤 H A W maxCircles (splitOf radiiOf ys zeros) l₇ 0) $
+        move ! (5 ∷ []) $ use1 W (‵ (froom (numbersTy maxCircles) l₆ 0)) (array-room 𝓤 H A W maxCircles (ws .1 .0) l₆ 0) $
+        move ! (5 ∷ []) $ use1 W (‵ (froom (numbersTy maxCircles) l₅ 0)) (array-room 𝓤 H A W maxCircles (ws .0) l₅ 0) $
         forget ! 54 refl $ forget ! 52 refl $ forget ! 50 refl $ forget ! 48 refl $ forget ! 46 refl $ forget ! 41 refl $ forget ! 39 refl $ forget ! 37 refl $ forget ! 35 refl $ forget ! 33 refl $ forget ! 31 refl $ forget ! 29 refl $ forget ! 27 refl $ forget ! 25 refl $ forget ! 23 refl $ forget ! 21 refl $ forget ! 19 refl $ forget ! 17 refl $ forget ! 15 refl $ forget ! 13 refl $ forget ! 11 refl $ forget ! 9 refl $
         move ! (54 ∷ 55 ∷ []) $ free1 ! $ move ! (52 ∷ 53 ∷ []) $ free1 ! $ move ! (50 ∷ 51 ∷ []) $ free1 ! $ move ! (48 ∷ 49 ∷ []) $ free1 ! $ move ! (46 ∷ 47 ∷ []) $ free1 ! $ move ! (0 ∷ 45 ∷ []) $ free1 ! $ move ! (0 ∷ 43 ∷ []) $ free1 ! $ move ! (0 ∷ 41 ∷ []) $ free1 ! $ move ! (38 ∷ 39 ∷ []) $ free1 ! $ move ! (36 ∷ 37 ∷ []) $ free1 ! $ move ! (34 ∷ 35 ∷ []) $ free1 ! $ move ! (32 ∷ 33 ∷ []) $ free1 ! $ move ! (30 ∷ 31 ∷ []) $ free1 ! $ move ! (28 ∷ 29 ∷ []) $ free1 ! $ move ! (26 ∷ 27 ∷ []) $ free1 ! $ move ! (24 ∷ 25 ∷ []) $ free1 ! $ move ! (22 ∷ 23 ∷ []) $ free1 ! $ move ! (20 ∷ 21 ∷ []) $ free1 ! $ move ! (18 ∷ 19 ∷ []) $ free1 ! $ move ! (16 ∷ 17 ∷ []) $ free1 ! $ move ! (14 ∷ 15 ∷ []) $ free1 ! $ move ! (12 ∷ 13 ∷ []) $ free1 ! $ move ! (10 ∷ 11 ∷ []) $ free1 ! $ move ! (8 ∷ 9 ∷ []) $ free1 ! $ move ! (6 ∷ 7 ∷ []) $ free1 ! $ free0 ! $
-        keep ! (0 ∷ 1 ∷ 2 ∷ 3 ∷ 4 ∷ []) $ by ! (exits zs long r (lays-of r (ws .0) (ws .1 .0) zs e long-x long-y said) (is-mach r v is))))))))))))))))))))))))))))))))))))))))
+        keep ! (0 ∷ 1 ∷ 2 ∷ 3 ∷ 4 ∷ []) $
+        by ! (exits zs long r (lays-of r (ws .0) (ws .1 .0) zs e long-x long-y said) (is-mach r v is))))))))))))))))))))))))))))))))))))))))
 
 module _ {M : Type 1} (𝓤 : URA M) (H : Heap 𝓤) (A : Atoms 𝓤) (W : Given 𝓤 H A) (at-mem : Memory → SProp 𝓤) (run : Routine → Fun 𝓤) (𝓣 : Tables 𝓤 H)
     (known-split : Triple 𝓤 (𝓣 .C #split) (Split 𝓤 H A at-mem run)) (known-core : Triple 𝓤 (𝓣 .C #core) (Core 𝓤 H A at-mem run))
@@ -260,13 +266,8 @@ module _ {M : Type 1} (𝓤 : URA M) (H : Heap 𝓤) (A : Atoms 𝓤) (W : Given
       (a .1 .0) (a .1 .1 .0) (a .1 .1 .1 .0) (are .0 .0 .1) (are .1 .0) (are .1 .1 .0 .0 .1) (are .1 .1 .1 .0 .0 .1) 𝓣 known-split known-core known-written known-join))
 
   thin-meets : Meets 𝓤 H A thin.signature (WpFn 𝓤 H (𝓣 .C) (𝓣 .Λ) code.function) (thin.spec 𝓤 H A at-mem run)
-  thin-meets = walk-meets 𝓤 H A thin.ended stayed W (
-    goes-slice 𝓤 H A W 3 0 tt (plain (λ _. T.the-row)),
-    (
-      goes-none 𝓤 H A W 3 (λ _. f64) yes (λ κs x f. refl),
-      (goes-none-slice 𝓤 H A W 3 (1 ∷ []) tt (plain (λ _. u64)) yes, (goes-none-slice 𝓤 H A W 3 (2 ∷ []) tt (plain (λ _. f64)) yes, tt)),
-    ),
-  )
+  thin-meets = walk-meets 𝓤 H A thin.ended stayed W
+      (goes-slice 𝓤 H A W 3 0 tt (plain (λ _. T.the-row)), (goes-none 𝓤 H A W 3 (λ _. f64) yes (λ κs x f. refl), (goes-none-slice 𝓤 H A W 3 (1 ∷ []) tt (plain (λ _. u64)) yes, (goes-none-slice 𝓤 H A W 3 (2 ∷ []) tt (plain (λ _. f64)) yes, tt))))
       (thin.clauses 𝓤 H A at-mem run) (WpFn 𝓤 H (𝓣 .C) (𝓣 .Λ) code.function) (WpFn-mono 𝓤 H (W .laws) 𝓣 code.function) thin-walks
 
 pub normalize-layout-with-clusters-spec : {M : Type 1} → stated.statement M
