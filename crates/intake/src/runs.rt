@@ -32,7 +32,11 @@ pub fn split(
 }
 
 // The sides of a run of boxes.
-pub fn split_sides(rectangles: &[Rectangle], widths: &mut [f64; MAX_CIRCLES], heights: &mut [f64; MAX_CIRCLES]) -> u8
+pub fn split_sides(
+    rectangles: &[Rectangle],
+    widths: &mut [f64; MAX_CIRCLES],
+    heights: &mut [f64; MAX_CIRCLES],
+) -> u8
     ensures { λ r. ⌜ (r ≡ cond (tooMany (length (now (rectangles .entry)))) 1 0) × (now (widths .exit) ≡ cond (tooMany (length (now (rectangles .entry)))) (now (widths .entry)) (overwritten (widthsOf (now (rectangles .entry))) (now (widths .entry)))) × (now (heights .exit) ≡ cond (tooMany (length (now (rectangles .entry)))) (now (heights .entry)) (overwritten (heightsOf (now (rectangles .entry))) (now (heights .entry)))) ⌝ }
 {
     let end = taken(rectangles.len());

@@ -3,7 +3,7 @@ use Prim.Native.Nat.{ℕ, _≤_}
 use native.Mathlib.Omega.{arith}
 use native.Mathlib.Decide.{ℕ-discrete}
 use mathlib.Core.Path.{_≡_, refl, sym, ap, _∙_}
-use mathlib.Core.Bool.{Bool, true, false, cond}
+use mathlib.Core.Bool.{Bool, true, false}
 use mathlib.Core.List.{List}
 use lib.Ieee.{Float}
 use lib.ListN.{length, take, drop}
@@ -34,6 +34,11 @@ of-run cs first f bad x back many e = by-count (tooMany (length cs)) refl
     by-count true h = rw h at e ∙ sym (many h)
     by-count false h = rw h at e ∙ ap f (back h)
 
+-- a definition of the answer for a run: too many circles are refused by 1, and a refused run stays as it is
+pub record Answering (number : List Circle → ℕ) (after : List Circle → List Circle) : Type 0 where
+  pub many : (cs : List Circle) → tooMany (length cs) ≡ true → number cs ≡ 1
+  pub stays : (cs : List Circle) → (number cs ≡ 0 → ⊥) → after cs ≡ cs
+
 module _ (cs : List Circle) (zs : List Float) where
   abbrev n : ℕ
   n = length cs
@@ -45,17 +50,17 @@ module _ (cs : List Circle) (zs : List Float) where
   pub run-back : tooMany n ≡ false → shownAgain ≡ cs
   run-back h = rw (column-back xsOf cs zs (length-xs cs) h, column-back ysOf cs zs (length-ys cs) h, column-back radiiOf cs zs (length-radii cs) h) (shown-back cs)
 
-  module _ (number : List Circle → ℕ) (after : List Circle → List Circle) (many : tooMany n ≡ true → number cs ≡ 1) (refused : (number cs ≡ 0 → ⊥) → after cs ≡ cs) (r : ℕ) (xs′ ys′ : List Float)
+  module _ {number : List Circle → ℕ} {after : List Circle → List Circle} (by : Answering number after) (r : ℕ) (xs′ ys′ : List Float)
       (answered : Answered number after (splitOf xsOf cs zs) (splitOf ysOf cs zs) (splitOf radiiOf cs zs) n r xs′ ys′) where
     pub answered-number : r ≡ number cs
     unfolding Answered
-    answered-number = of-run cs shownAgain number 1 r run-back many (answered .0)
+    answered-number = of-run cs shownAgain number 1 r run-back (by .many cs) (answered .0)
 
-    not-many : r ≡ 0 → tooMany n ≡ false
+    pub not-many : r ≡ 0 → tooMany n ≡ false
     not-many z = by-count (tooMany n) refl
       where
         by-count : (b : Bool) → tooMany n ≡ b → tooMany n ≡ false
-        by-count true h = let one-is-not : _≡_ {A = ℕ} 1 0 = sym (many h) ∙ sym answered-number ∙ z in absurd (omega arith)
+        by-count true h = let one-is-not : _≡_ {A = ℕ} 1 0 = sym (by .many cs h) ∙ sym answered-number ∙ z in absurd (omega arith)
         by-count false h = h
 
     -- so `join` may write that many
@@ -74,5 +79,5 @@ module _ (cs : List Circle) (zs : List Float) where
           let radii : take n (splitOf radiiOf cs zs) ≡ radiiOf cs = column-back radiiOf cs zs (length-radii cs) (not-many z) in
           let shown : circlesOf (take n xs′) (take n ys′) (radiiOf cs) ≡ after cs = ap (circlesOf (take n xs′) (take n ys′)) (sym radii) ∙ answered .1 z ∙ ap after (run-back (not-many z)) in
           rw (written-all r n z, recentred-all n xs′ ys′ cs refl (omega arith) (omega arith)) shown
-      | no z ↦ rw (written-none r n z, recentred-none xs′ ys′ cs) (sym (refused (λ w. z (answered-number ∙ w))))
+      | no z ↦ rw (written-none r n z, recentred-none xs′ ys′ cs) (sym (by .stays cs (λ w. z (answered-number ∙ w))))
     ]

@@ -1,5 +1,4 @@
 -- The core's answer for the sides of a run of boxes is the packing of the run.
-use Prim.Native.Nat.{ℕ}
 use mathlib.Core.Path.{_≡_, refl, sym, _∙_}
 use mathlib.Core.Bool.{Bool, true, false}
 use mathlib.Core.List.{List}

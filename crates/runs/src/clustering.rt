@@ -24,7 +24,12 @@ pub fn find_clusters(circles: &[Circle]) -> Clusters
 }
 
 // Stands for the core.
-fn clusters_at(xs: &[f64; MAX_CIRCLES], ys: &[f64; MAX_CIRCLES], radii: &[f64; MAX_CIRCLES], n: usize) -> Clusters
+fn clusters_at(
+    xs: &[f64; MAX_CIRCLES],
+    ys: &[f64; MAX_CIRCLES],
+    radii: &[f64; MAX_CIRCLES],
+    n: usize,
+) -> Clusters
     ensures { λ r. ⌜ Clustered (now (xs .entry)) (now (ys .entry)) (now (radii .entry)) n r ⌝ }
 {
     let refusal = crate::normalize::number_of(n);

@@ -9,7 +9,12 @@ use shapes::geometry::primitives::point::Point;
 use shapes::geometry::shapes::circle::Circle;
 
 // Writes the first `count` centres over those of a run; every other field stays as it is.
-pub(crate) fn join(circles: &mut [Circle], xs: &[f64; MAX_CIRCLES], ys: &[f64; MAX_CIRCLES], count: usize)
+pub(crate) fn join(
+    circles: &mut [Circle],
+    xs: &[f64; MAX_CIRCLES],
+    ys: &[f64; MAX_CIRCLES],
+    count: usize,
+)
     requires { ⌜ (count ≤ length (now circles)) × (count ≤ maxCircles) ⌝ }
     ensures { λ _. ⌜ now (circles .exit) ≡ recentred count (now (xs .entry)) (now (ys .entry)) (now (circles .entry)) ⌝ }
 {

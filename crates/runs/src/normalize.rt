@@ -21,7 +21,12 @@ pub struct Result {
 }
 
 // A refused call leaves the run as it was.
-pub fn normalize_layout_with_clusters(circles: &mut [Circle], factor: f64, masks: &[u64], areas: &[f64]) -> Result
+pub fn normalize_layout_with_clusters(
+    circles: &mut [Circle],
+    factor: f64,
+    masks: &[u64],
+    areas: &[f64],
+) -> Result
     ensures { λ r. ⌜ Lays (now (circles .entry)) factor (now (masks .entry)) (now (areas .entry)) r (now (circles .exit)) ⌝ }
 {
     let mut xs = [0.0; MAX_CIRCLES];
@@ -54,7 +59,13 @@ pub fn normalize_layout_with_container(circles: &mut [Circle], container: Rectan
 }
 
 // Stands for the core.
-fn settled_at(xs: &mut [f64; MAX_CIRCLES], ys: &mut [f64; MAX_CIRCLES], radii: &[f64; MAX_CIRCLES], n: usize, container: Rectangle) -> Placed
+fn settled_at(
+    xs: &mut [f64; MAX_CIRCLES],
+    ys: &mut [f64; MAX_CIRCLES],
+    radii: &[f64; MAX_CIRCLES],
+    n: usize,
+    container: Rectangle,
+) -> Placed
     ensures { λ r. ⌜ Settled (now (xs .entry)) (now (ys .entry)) (now (radii .entry)) n container r (now (xs .exit)) (now (ys .exit)) ⌝ }
 {
     let refusal = number_of(n);
@@ -62,7 +73,15 @@ fn settled_at(xs: &mut [f64; MAX_CIRCLES], ys: &mut [f64; MAX_CIRCLES], radii: &
 }
 
 // Stands for the core.
-fn laid(xs: &mut [f64; MAX_CIRCLES], ys: &mut [f64; MAX_CIRCLES], radii: &[f64; MAX_CIRCLES], n: usize, factor: f64, masks: &[u64], areas: &[f64]) -> Result
+fn laid(
+    xs: &mut [f64; MAX_CIRCLES],
+    ys: &mut [f64; MAX_CIRCLES],
+    radii: &[f64; MAX_CIRCLES],
+    n: usize,
+    factor: f64,
+    masks: &[u64],
+    areas: &[f64],
+) -> Result
     ensures { λ r. ⌜ Laid (now (xs .entry)) (now (ys .entry)) (now (radii .entry)) n factor (now (masks .entry)) (now (areas .entry)) r (now (xs .exit)) (now (ys .exit)) ⌝ }
 {
     let refusal = number_of(n);

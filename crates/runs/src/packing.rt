@@ -22,7 +22,12 @@ pub fn skyline_pack(rectangles: &[Rectangle], padding: f64) -> Packed
 }
 
 // Stands for the core.
-fn packed_at(widths: &[f64; MAX_CIRCLES], heights: &[f64; MAX_CIRCLES], n: usize, padding: f64) -> Packed
+fn packed_at(
+    widths: &[f64; MAX_CIRCLES],
+    heights: &[f64; MAX_CIRCLES],
+    n: usize,
+    padding: f64,
+) -> Packed
     ensures { λ r. ⌜ PackedAt (now (widths .entry)) (now (heights .entry)) n padding r ⌝ }
 {
     let refusal = crate::normalize::number_of(n);
@@ -32,8 +37,7 @@ fn packed_at(widths: &[f64; MAX_CIRCLES], heights: &[f64; MAX_CIRCLES], n: usize
     }
 }
 
-fn no_box() -> Rectangle
-{
+fn no_box() -> Rectangle {
     Rectangle {
         center: Point { x: 0.0, y: 0.0 },
         width: 0.0,
