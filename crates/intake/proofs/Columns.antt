@@ -11,19 +11,21 @@ use lib.Seq.{take-length, drop-length, length-take-le, drop-cons, getD-at, take-
 use lib.Dec.{T}
 use lib.Ieee.{Float, nan}
 use Rattle.shapes.specs.declared.geometry.shapes.circle.Circle.{Circle}
+use Rattle.shapes.specs.declared.geometry.shapes.rectangle.Rectangle.{Rectangle}
 use Rattle.shapes.specs.Records.{pointAt}
 use Rattle.scope.specs.Numbers.{_+ᶠ_}
 use Rattle.scope.specs.Runs.{tab, any, someBelow}
 use Rattle.scope.specs.Limits.{coordinateOk, radiusOk}
 use Rattle.scope.specs.Links.{circle, nowhere}
 use Rattle.scope.specs.Refusals.{badPoint, badCentre, badRadius}
+use Rattle.scope.specs.Packing.{rectangle}
 use Rattle.scope.specs.Offset.{translated}
 use Rattle.scope.specs.Gauge.{changed}
 use Rattle.scope.specs.Centring.{allTranslated}
 use Rattle.promises.proofs.Cases.{or-iff}
 use Rattle.promises.proofs.Runs.{length-tab, getD-tab, tab-equal, any-at, someBelow-iff}
 use Rattle.intake.specs.Limits.{maxCircles}
-use Rattle.intake.specs.Columns.{circleOf, at, circlesOf, xsOf, ysOf, radiiOf, each, members, Lifted}
+use Rattle.intake.specs.Columns.{circleOf, at, circlesOf, xsOf, ysOf, radiiOf, widthsOf, heightsOf, each, members, Lifted}
 use Rattle.intake.proofs.InPlace.{so-far, rewritten, all-rewritten}
 
 -- ---- a loop over a whole list that writes each element anew: its end, and what it has not come to yet
@@ -82,6 +84,23 @@ shown-back cs =
     ext-getD nowhere _ cs (length-shown _ _ _ ∙ length-xs cs) (λ i h.
     let below : i < length cs = rw (length-shown (xsOf cs) (ysOf cs) (radiiOf cs), length-xs cs) at h in
     shown-at (xsOf cs) (ysOf cs) (radiiOf cs) i (rw (length-xs cs) below) ∙ rw (x-at cs i below, y-at cs i below, radius-at cs i below))
+
+-- ---- the lists of a run of boxes
+pub length-widths : (rects : List Rectangle) → length (widthsOf rects) ≡ length rects
+unfolding widthsOf
+length-widths rects = length-tab (length rects) (λ i. rectangle rects i .width)
+
+pub length-heights : (rects : List Rectangle) → length (heightsOf rects) ≡ length rects
+unfolding heightsOf
+length-heights rects = length-tab (length rects) (λ i. rectangle rects i .height)
+
+pub width-at : (rects : List Rectangle) (i : ℕ) → i < length rects → at (widthsOf rects) i ≡ rectangle rects i .width
+unfolding widthsOf
+width-at rects i h = getD-tab (length rects) (λ k. rectangle rects k .width) i nan h
+
+pub height-at : (rects : List Rectangle) (i : ℕ) → i < length rects → at (heightsOf rects) i ≡ rectangle rects i .height
+unfolding heightsOf
+height-at rects i h = getD-tab (length rects) (λ k. rectangle rects k .height) i nan h
 
 -- ---- lists changed at a cluster's members
 pub length-members : (member : ℕ → Bool) (f : ℕ → Float → Float) (l : List Float) → length (members member f l) ≡ length l

@@ -6,3 +6,9 @@ pub mod Loading
 pub mod InPlace
 pub mod Columns
 pub mod CauseWords
+pub mod Lending
+pub mod NumberArrays
+pub mod TakenCalls
+pub mod Splitting
+pub mod SplitCall
+pub mod SidesCall

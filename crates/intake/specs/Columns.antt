@@ -6,10 +6,12 @@ use mathlib.Core.List.{List, _++_}
 use lib.ListN.{getD, length, drop}
 use lib.Ieee.{Float, nan}
 use Rattle.shapes.specs.declared.geometry.shapes.circle.Circle.{Circle}
+use Rattle.shapes.specs.declared.geometry.shapes.rectangle.Rectangle.{Rectangle}
 use Rattle.shapes.specs.Records.{pointAt}
 use Rattle.shapes.specs.Lift.{lift}
 use Rattle.scope.specs.Runs.{tab}
 use Rattle.scope.specs.Links.{circle}
+use Rattle.scope.specs.Packing.{rectangle}
 
 -- the circle of three numbers, its radius as it is
 abbrev pub circleOf : Float → Float → Float → Circle
@@ -32,6 +34,13 @@ ysOf cs = tab (length cs) (λ i. circle cs i .center .y)
 
 unfoldable pub radiiOf : List Circle → List Float
 radiiOf cs = tab (length cs) (λ i. circle cs i .radius)
+
+-- the lists of a run of boxes
+unfoldable pub widthsOf : List Rectangle → List Float
+widthsOf rects = tab (length rects) (λ i. rectangle rects i .width)
+
+unfoldable pub heightsOf : List Rectangle → List Float
+heightsOf rects = tab (length rects) (λ i. rectangle rects i .height)
 
 -- every number changed by f, which knows its place
 abbrev pub each : (ℕ → Float → Float) → List Float → List Float

@@ -5,3 +5,4 @@ pub mod lent_boxes;
 pub mod limits;
 pub mod masks;
 pub mod refusals;
+pub mod runs;

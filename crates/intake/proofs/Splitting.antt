@@ -1,0 +1,57 @@
+-- A loop that writes one number of each record of a run over an array, unless there are too many records: what stands there after i turns, and at the end.
+use Prim.Native.Nat.{ℕ, _+_, _≤_, _<_}
+use native.Mathlib.Omega.{arith}
+use native.Mathlib.Numerals.{add-one}
+use mathlib.Core.Path.{_≡_, refl}
+use mathlib.Core.Bool.{Bool, true, false, cond}
+use mathlib.Core.List.{List}
+use lib.ListN.{length, getD, set}
+use lib.Seq.{take-all}
+use Rattle.scope.specs.Limits.{circleCap}
+use Rattle.scope.specs.Refusals.{tooMany}
+use Rattle.intake.specs.Limits.{maxCircles}
+use Rattle.intake.specs.Columns.{overwritten}
+use Rattle.intake.proofs.Checking.{few}
+use Rattle.intake.proofs.Loading.{over, over-next}
+use Rattle.intake.proofs.InPlace.{over-length}
+use Rattle.intake.proofs.TakenCalls.{takenOf}
+
+pub taken-few : (n : ℕ) → (takenOf n ≤ n) × (takenOf n ≤ maxCircles)
+unfolding circleCap
+taken-few n = by-count (tooMany n) refl
+  where
+    by-count : (b : Bool) → tooMany n ≡ b → (takenOf n ≤ n) × (takenOf n ≤ maxCircles)
+    by-count true h = rw h (omega arith, omega arith)
+    by-count false h = let room = few n h in rw h (omega arith, omega arith)
+
+-- an array after `split` or `split_sides`, from its column of the run
+abbrev pub splitOf : {A B : Type 0} → (List A → List B) → List A → List B → List B
+splitOf f cs zs = cond (tooMany (length cs)) zs (overwritten (f cs) zs)
+
+-- the column of the numbers that f takes of the records, over the array zs
+module _ {A B : Type 0} (f : A → B) (cs : List A) (d : A) (e : B) (col : List B) (long : length col ≡ length cs) (same : (i : ℕ) → i < length cs → getD col i e ≡ f (getD cs i d)) (zs : List B) (wide : length zs ≡ maxCircles) where
+  abbrev end : ℕ
+  end = takenOf (length cs)
+
+  -- the array after i turns
+  abbrev pub column : ℕ → List B
+  column i = over i col zs
+
+  pub column-length : (i : ℕ) → i ≤ end → length (column i) ≡ length zs
+  column-length i h = let room = taken-few (length cs) in over-length i col zs (rw long (omega arith)) (rw wide (omega arith))
+
+  pub column-within : (i : ℕ) → i < end → i < length (column i)
+  column-within i h = let room = taken-few (length cs) in rw (column-length i (omega arith), wide) (omega arith)
+
+  pub column-next : (i : ℕ) → i < end → set (column i) i (f (getD cs i d)) ≡ column (i + 1)
+  column-next i h =
+      let room = taken-few (length cs) in
+      rw (← same i (omega arith), add-one) (over-next i col zs e (rw long (omega arith)) (rw wide (omega arith)))
+
+  pub column-all : column end ≡ cond (tooMany (length cs)) zs (overwritten col zs)
+  unfolding overwritten
+  column-all = by-count (tooMany (length cs)) refl
+    where
+      by-count : (b : Bool) → tooMany (length cs) ≡ b → column end ≡ cond (tooMany (length cs)) zs (overwritten col zs)
+      by-count true h = rw h
+      by-count false h = rw (h, long, take-all (length cs) col (rw long (omega arith)))

@@ -1,0 +1,17 @@
+-- `clusters_at`, which stands for the core, meets its contract.
+use mathlib.Core.Path.{_∙_}
+use borrow.Author.Needs.{needs}
+use Rattle.runs.specs.Clustering.{clusteringNumber}
+use Rattle.runs.proofs.StandIns.{first-shown-numbered}
+use Rattle.runs.proofs.clustering.clusters_at.Statement.{statement}
+use Rattle.runs.proofs.clustering.clusters_at.Tie as tie
+
+number-of-requires : tie.Need-number-of-requires
+number-of-requires c κs = search needs
+
+returns : tie.Need-returns
+unfolding clusteringNumber
+returns c = let a = c .before .args in c .number-of .ensures ∙ first-shown-numbered (a .n) (a .xs .now) (a .ys .now) (a .radii .now)
+
+pub clusters-at-spec : {M : Type 1} → statement M
+clusters-at-spec = tie.close (tie.spec number-of-requires returns)
