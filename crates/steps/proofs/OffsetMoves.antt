@@ -24,7 +24,9 @@ use Rattle.intake.specs.Columns.{at, circleOf, circlesOf, Lifted}
 use Rattle.intake.proofs.Columns.{length-shown, shown-at}
 use Rattle.promises.proofs.Cases.{is-true, is-false}
 use Rattle.promises.proofs.Runs.{NoneBelow, someBelow-iff, passes-below, getD-tab}
-use Rattle.steps.specs.Offsets.{parentAt, ParentsOf, moment}
+use Rattle.steps.specs.declared.offset.Moved.{Moved}
+use Rattle.steps.specs.declared.offset.Moved.the-variants as child
+use Rattle.steps.specs.Offsets.{moved, parentAt, ParentsOf, moment}
 
 pub not-held : (b : Bool) → b ≡ false → ¬ T b
 not-held b e = rw e (λ t. t)
@@ -45,9 +47,9 @@ module _ (cs : List Circle) (p i : ℕ) where
   way-free c f = sym (is-false _ (λ u. let e = someBelow-iff (length cs) (barred cs p i c) .0 u in f (e .0) (e .1) (e .2)))
 
   -- the definition at what the code has worked out
-  module _ (parent child : Circle) (a : parent ≡ circle cs p) (b : child ≡ circle cs i) (u : Point) (dMax : Float) (d : u ≡ direction parent child) (e : dMax ≡ maxContainedOffset parent child u) where
-    pub repositioned-by : (c : Circle) → c ≡ childAt parent child u (half *ᶠ dMax)
-        → cond (((dMax ≤ᶠ nought) || there (move parent child u (half *ᶠ dMax)) dMax) || not (contains parent c) || blocked cs p i c) none (some c)
+  module _ (parent small : Circle) (a : parent ≡ circle cs p) (b : small ≡ circle cs i) (u : Point) (dMax : Float) (d : u ≡ direction parent small) (e : dMax ≡ maxContainedOffset parent small u) where
+    pub repositioned-by : (c : Circle) → c ≡ childAt parent small u (half *ᶠ dMax)
+        → cond (((dMax ≤ᶠ nought) || there (move parent small u (half *ᶠ dMax)) dMax) || not (contains parent c) || blocked cs p i c) none (some c)
         ≡ repositioned cs p i
     unfolding repositioned
     repositioned-by c f = rw (f, e, d, a, b)
@@ -56,11 +58,11 @@ module _ (cs : List Circle) (p i : ℕ) where
   unfolding repositioned childAt translated
   moved-radius c e =
       let parent = circle cs p in
-      let child = circle cs i in
-      let u = direction parent child in
-      let dMax = maxContainedOffset parent child u in
-      let m = childAt parent child u (half *ᶠ dMax) in
-      let stays = ((dMax ≤ᶠ nought) || there (move parent child u (half *ᶠ dMax)) dMax) || not (contains parent m) || blocked cs p i m in
+      let small = circle cs i in
+      let u = direction parent small in
+      let dMax = maxContainedOffset parent small u in
+      let m = childAt parent small u (half *ᶠ dMax) in
+      let stays = ((dMax ≤ᶠ nought) || there (move parent small u (half *ᶠ dMax)) dMax) || not (contains parent m) || blocked cs p i m in
       ap (λ (o : Circle). o .radius) (the-moved stays m e)
     where
       the-moved : (stays : Bool) (m : Circle) → some c ≡ cond stays none (some m) → c ≡ m
@@ -82,6 +84,19 @@ module _ (xs ys rs : List Float) (i : ℕ) (c : Circle) (long : length ys ≡ le
             | yes d ↦ rw (d, getD-set-same xs i (c .center .x) nan h, getD-set-same ys i (c .center .y) nan (rw long h), ← e, getD-set-same (circlesOf xs ys rs) i c nowhere (rw (length-shown xs ys rs) h))
             | no d ↦ rw (getD-set-other xs i j (c .center .x) nan d, getD-set-other ys i j (c .center .y) nan d, getD-set-other (circlesOf xs ys rs) i j c nowhere d) (sym (shown-at xs ys rs j l))
           ]
+
+-- what was worked out of a child, as the code has it
+pub moved-known : (m : Moved) (c : Circle) (o : Option Circle) → child.To c ≡ m → moved m ≡ o → some c ≡ o
+moved-known m c o e h = rw (← e) at h
+
+pub stays-known : (m : Moved) (o : Option Circle) → child.Stays ≡ m → moved m ≡ o → none ≡ o
+stays-known m o e h = rw (← e) at h
+
+-- the radius of a moved child is what it was
+pub child-moved : (xs ys rs : List Float) (p i : ℕ) (c : Circle) → length ys ≡ length xs → i < length xs → Lifted rs → some c ≡ repositioned (circlesOf xs ys rs) p i
+    → circlesOf (set xs i (c .center .x)) (set ys i (c .center .y)) rs ≡ set (circlesOf xs ys rs) i c
+child-moved xs ys rs p i c long h lifted e =
+    one-moved xs ys rs i c long h (moved-radius (circlesOf xs ys rs) p i c e ∙ ap (λ (o : Circle). lift (o .radius)) (shown-at xs ys rs i h) ∙ lifted i)
 
 -- ---- one circle tried
 

@@ -1,59 +1,55 @@
-use Prim.Native.Nat.{ℕ, suc, _≤_, _<_, _-_, _+_}
+-- `all_tried` meets its contract: the circles before i have been tried in turn, and the mask has no bit from i on.
+use Prim.Native.Nat.{_+_, _-_, _^_, _<_, _≤_}
 use native.Mathlib.Omega.{arith}
+use mathlib.Core.List.{List}
+use mathlib.Core.Logic.{⊎-elim}
+use mathlib.Core.Path.{refl, sym, ap, _∙_, _≡_}
+use lib.ListN.{length}
 use borrow.Author.Needs.{needs}
-use mathlib.Core.Path.{_≡_, refl, sym, ap, _∙_}
-use mathlib.Core.Bool.{Bool, true, false, not, _&&_, _||_, cond}
-use lib.ListN.{length, getD, set}
+use Rattle.scope.specs.Links.{Region}
+use Rattle.scope.specs.Runs.{inTurn}
+use Rattle.intake.specs.Columns.{circlesOf}
+use Rattle.intake.proofs.Columns.{length-shown}
+use Rattle.steps.specs.Offsets.{ParentsOf, moment}
+use Rattle.steps.proofs.MaskShifts.{mask-fits, mask-grows}
+use Rattle.steps.proofs.OffsetMoves.{offset-all, tried-next, triedFirst}
 use Rattle.steps.proofs.offset.all_tried.Statement.{statement}
 use Rattle.steps.proofs.offset.all_tried.Tie as tie
-use Rattle.steps.proofs.offset.all_tried.Reads as reads
-use Rattle.steps.proofs.offset.all_tried.Lts as lts
-use Rattle.steps.proofs.offset.only.Reads as only-reads
-use Rattle.steps.proofs.offset.tried.Reads as tried-reads
 
 abbrev Inv-loop : tie.InvT-loop
-Inv-loop xs₀ ys₀ radii parents mask₀ i₀ xs ys mask i = ?
+Inv-loop xs₀ ys₀ radii parents mask₀ i₀ xs ys mask i = (i ≤ length xs₀) × (length xs ≡ length xs₀) × (length ys ≡ length xs₀) × (mask < 2 ^ i) × ((rs : List Region) → ParentsOf (length xs₀) rs parents → moment (circlesOf xs ys radii) mask ≡ triedFirst (length xs₀) rs i (moment (circlesOf xs₀ ys₀ radii) 0))
 
 abbrev μ-loop : tie.MeasureT-loop
-μ-loop xs₀ ys₀ radii parents mask₀ i₀ xs ys mask i = ?
+μ-loop xs₀ ys₀ radii parents mask₀ i₀ xs ys mask i = length xs₀ - i
 
--- src/offset.rt:488:5
 loop-holds : tie.Need-loop-holds Inv-loop μ-loop
-loop-holds c = ?
+unfolding inTurn
+loop-holds c = let r = c .before .before .before .before in (omega arith, refl, r .pre .0, omega arith, λ rs shows. refl)
 
--- src/offset.rt:489:12
 tried-requires : tie.Need-tried-requires Inv-loop μ-loop
-tried-requires c κs = ?
+tried-requires c κs = let l = c .before .before .before .loop in let r = c .before .before .before .before .before .before .before .before in (omega arith, omega arith, omega arith, omega arith, r .pre .5)
 
--- src/offset.rt:490:27
 only-requires : tie.Need-only-requires Inv-loop μ-loop
-only-requires c κs = ?
+only-requires c κs = omega arith
 
--- src/offset.rt:490:20
 add-mask : tie.Need-add-mask Inv-loop μ-loop
-add-mask c = omega arith
+add-mask c = let l = c .before .before .before .before .before .before .before .before .before .before .loop in omega (arith, mask-fits (l .mask) (l .i) (omega arith) (l .inv .3), c .only .ensures)
 
--- src/offset.rt:492:9
 add-i : tie.Need-add-i Inv-loop μ-loop
 add-i c = omega arith
 
--- src/offset.rt:488:5
 loop-less : tie.Need-loop-less Inv-loop μ-loop
 loop-less c = omega arith
 
--- src/offset.rt:488:5
 loop-again : tie.Need-loop-again Inv-loop μ-loop
 loop-again c = ?
 
--- src/offset.rt:482:1
 same-length : tie.Need-same-length Inv-loop μ-loop
-same-length c = ?
+same-length c = omega arith
 
--- src/offset.rt:482:1
 same-length-2 : tie.Need-same-length-2 Inv-loop μ-loop
-same-length-2 c = ?
+same-length-2 c = omega arith
 
--- src/offset.rt:482:1
 returns : tie.Need-returns Inv-loop μ-loop
 returns c = ?
 

@@ -1,41 +1,34 @@
-use Prim.Native.Nat.{ℕ, suc, _≤_, _<_, _-_, _+_}
+-- `contained_child_parent` meets its contract: no partner, a region of its own, or the one partner.
 use native.Mathlib.Omega.{arith}
 use borrow.Author.Needs.{needs}
-use mathlib.Core.Path.{_≡_, refl, sym, ap, _∙_}
-use mathlib.Core.Bool.{Bool, true, false, not, _&&_, _||_, cond}
-use lib.ListN.{length, getD, set}
-use borrow.Author.Needs.{needs}
+use Rattle.steps.proofs.ChildParents.{no-partner, own-region, partner-is-parent}
 use Rattle.steps.proofs.offset.contained_child_parent.Statement.{statement}
 use Rattle.steps.proofs.offset.contained_child_parent.Tie as tie
-use Rattle.steps.proofs.offset.contained_child_parent.Reads as reads
-use Rattle.steps.proofs.offset.contained_child_parent.Lts as lts
-use Rattle.steps.proofs.offset.area_with_mask.Reads as area-with-mask-reads
-use Rattle.steps.proofs.offset.only.Reads as only-reads
-use Rattle.steps.proofs.offset.partner.Reads as partner-reads
 
--- src/offset.rt:177:9
 partner-requires : tie.Need-partner-requires
 partner-requires c κs = search needs
 
--- src/offset.rt:179:9
 returns : tie.Need-returns
-returns c = ?
+returns c = (omega arith, no-partner _ _ _ _ _ (c .before .partner .ensures) (c .if1 .taken))
 
--- src/offset.rt:181:29
 only-requires : tie.Need-only-requires
 only-requires c κs = search needs
 
--- src/offset.rt:181:14
 area-with-mask-requires : tie.Need-area-with-mask-requires
 area-with-mask-requires c κs = search needs
 
--- src/offset.rt:182:9
 returns-2 : tie.Need-returns-2
-returns-2 c = ?
+returns-2 c =
+    let a = c .before in
+    let own = rw (a .area-with-mask .ensures, a .before .only .ensures) at (c .if2 .taken) in
+    (omega arith, own-region _ _ _ _ _ (a .before .before .before .partner .ensures) own)
 
--- src/offset.rt:172:1
 returns-3 : tie.Need-returns-3
-returns-3 c = ?
+returns-3 c =
+    let a = c .before in
+    let s = a .before .before in
+    let alone = rw (a .area-with-mask .ensures, a .before .only .ensures) at (c .if2 .left) in
+    (omega arith, partner-is-parent _ _ _ _ _ (s .before .partner .ensures) (s .if1 .left) alone)
 
 pub contained-child-parent-spec : {M : Type 1} → statement M
 contained-child-parent-spec =

@@ -1,40 +1,42 @@
-use Prim.Native.Nat.{ℕ, suc, _≤_, _<_, _-_, _+_}
+-- `parent_of` meets its contract: each way out knows what was found, and whether the child is smaller.
 use native.Mathlib.Omega.{arith}
+use lib.Ieee.{ofBits}
 use borrow.Author.Needs.{needs}
-use mathlib.Core.Path.{_≡_, refl, sym, ap, _∙_}
-use mathlib.Core.Bool.{Bool, true, false, not, _&&_, _||_, cond}
-use lib.ListN.{length, getD, set}
-use borrow.Author.Needs.{needs}
+use Rattle.scope.specs.Numbers.{e-6}
+use Rattle.scope.specs.Offset.{smaller}
+use Rattle.steps.proofs.ChildParents.{child-not-smaller, child-smaller, none-smaller}
 use Rattle.steps.proofs.offset.parent_of.Statement.{statement}
 use Rattle.steps.proofs.offset.parent_of.Tie as tie
-use Rattle.steps.proofs.offset.parent_of.Reads as reads
-use Rattle.steps.proofs.offset.parent_of.Lts as lts
-use Rattle.steps.proofs.offset.contained_child_parent.Reads as contained-child-parent-reads
-use Rattle.steps.proofs.offset.total.Reads as total-reads
 
--- src/offset.rt:193:9
 contained-child-parent-requires : tie.Need-contained-child-parent-requires
 contained-child-parent-requires c κs = search needs
 
--- src/offset.rt:195:9
 returns : tie.Need-returns
-returns c = ?
+returns c = let k = c .before .contained-child-parent in (omega arith, none-smaller _ _ _ (k .result) _ (k .ensures .1) (c .if1 .taken))
 
--- src/offset.rt:197:8
 total-requires : tie.Need-total-requires
 total-requires c κs = search needs
 
--- src/offset.rt:197:33
 total-requires-2 : tie.Need-total-requires-2
 total-requires-2 c κs = search needs
 
--- src/offset.rt:198:9
 returns-2 : tie.Need-returns-2
-returns-2 c = ?
+unfolding smaller e-6 ofBits
+returns-2 c =
+    let t = c .before in
+    let s = t .before .before in
+    let k = s .before .contained-child-parent in
+    let less = rw (t .before .total .ensures, t .total2 .ensures) at (c .if2 .taken) in
+    (omega arith, child-smaller _ _ _ (k .result) _ (k .ensures .1) (s .if1 .left) less)
 
--- src/offset.rt:188:1
 returns-3 : tie.Need-returns-3
-returns-3 c = ?
+unfolding smaller e-6 ofBits
+returns-3 c =
+    let t = c .before in
+    let s = t .before .before in
+    let k = s .before .contained-child-parent in
+    let more = rw (t .before .total .ensures, t .total2 .ensures) at (c .if2 .left) in
+    (omega arith, child-not-smaller _ _ _ (k .result) _ (k .ensures .1) (s .if1 .left) more)
 
 pub parent-of-spec : {M : Type 1} → statement M
 parent-of-spec =

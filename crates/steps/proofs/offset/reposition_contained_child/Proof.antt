@@ -1,78 +1,117 @@
-use Prim.Native.Nat.{ℕ, suc, _≤_, _<_, _-_, _+_}
-use native.Mathlib.Omega.{arith}
+-- `reposition_contained_child` meets its contract: each way out knows how the tests before it went.
+use mathlib.Core.Bool.{not, _||_, cond}
+use mathlib.Core.Option.{none, some}
+use mathlib.Core.Path.{refl, sym, _∙_, _≡_}
+use lib.Ieee.{ofBits}
 use borrow.Author.Needs.{needs}
-use mathlib.Core.Path.{_≡_, refl, sym, ap, _∙_}
-use mathlib.Core.Bool.{Bool, true, false, not, _&&_, _||_, cond}
-use lib.ListN.{length, getD, set}
-use borrow.Author.Needs.{needs}
+use borrow.Author.Tests.{not-false, not-true}
+use Rattle.shapes.specs.declared.geometry.shapes.circle.Circle.{Circle}
+use Rattle.scope.specs.Numbers.{_*ᶠ_, _≤ᶠ_, nought, half}
+use Rattle.scope.specs.Distance.{contains}
+use Rattle.scope.specs.Offset.{blocked, childAt, move, repositioned, there}
+use Rattle.intake.specs.Columns.{circlesOf}
+use Rattle.steps.proofs.OffsetMoves.{repositioned-by}
 use Rattle.steps.proofs.offset.reposition_contained_child.Statement.{statement}
 use Rattle.steps.proofs.offset.reposition_contained_child.Tie as tie
-use Rattle.steps.proofs.offset.reposition_contained_child.Reads as reads
-use Rattle.steps.proofs.offset.reposition_contained_child.Lts as lts
-use Rattle.steps.proofs.offset.at.Reads as at-reads
-use Rattle.steps.proofs.offset.blocked.Reads as blocked-reads
-use Rattle.steps.proofs.offset.child_at.Reads as child-at-reads
-use Rattle.steps.proofs.offset.contains.Reads as contains-reads
-use Rattle.steps.proofs.offset.direction.Reads as direction-reads
-use Rattle.steps.proofs.offset.max_contained_offset.Reads as max-contained-offset-reads
-use Rattle.steps.proofs.offset.there.Reads as there-reads
-use Rattle.steps.proofs.offset.way_to.Reads as way-to-reads
 
--- src/offset.rt:413:9
+-- the definition at the circles, the direction and the distance that are worked out by then
+whole : (m : tie.After-max-contained-offset) (c : Circle)
+    → (let parent = m .before .before .before .at .result in
+    let child = m .before .before .at2 .result in
+    let u = m .before .direction .result in
+    let dMax = m .max-contained-offset .result in
+    let a = m .before .before .before .before .before .before .before .args in
+    let cs = circlesOf (a .xs .now) (a .ys .now) (a .radii .now) in
+    c ≡ childAt parent child u (half *ᶠ dMax)
+    → cond (((dMax ≤ᶠ nought) || there (move parent child u (half *ᶠ dMax)) dMax) || not (contains parent c) || blocked cs (a .p) (a .i) c) none (some c) ≡ repositioned cs (a .p) (a .i))
+whole m c =
+    let u = m .before in
+    let child = u .before in
+    repositioned-by _ _ _ _ _ (child .before .at .ensures) (child .at2 .ensures) _ _ (u .direction .ensures) (m .max-contained-offset .ensures) c
+
 at-requires : tie.Need-at-requires
 at-requires c κs = search needs
 
--- src/offset.rt:414:9
 at-requires-2 : tie.Need-at-requires-2
 at-requires-2 c κs = search needs
 
--- src/offset.rt:415:9
 direction-requires : tie.Need-direction-requires
 direction-requires c κs = search needs
 
--- src/offset.rt:416:9
 max-contained-offset-requires : tie.Need-max-contained-offset-requires
 max-contained-offset-requires c κs = search needs
 
--- src/offset.rt:418:9
 returns : tie.Need-returns
-returns c = ?
+unfolding ofBits
+returns c = rw (c .if1 .taken) at (whole (c .before) _ refl)
 
--- src/offset.rt:421:14
 way-to-requires : tie.Need-way-to-requires
 way-to-requires c κs = search needs
 
--- src/offset.rt:421:8
 there-requires : tie.Need-there-requires
 there-requires c κs = search needs
 
--- src/offset.rt:422:9
 returns-2 : tie.Need-returns-2
-returns-2 c = ?
+unfolding ofBits
+returns-2 c =
+    let t = c .before in
+    let e = t .before .before in
+    rw (
+      e .if1 .left,
+      sym (rw (t .before .way-to .ensures) at (t .there .ensures)) ∙ c .if2 .taken,
+    ) at (whole (e .before) _ refl)
 
--- src/offset.rt:424:9
 child-at-requires : tie.Need-child-at-requires
 child-at-requires c κs = search needs
 
--- src/offset.rt:425:9
 contains-requires : tie.Need-contains-requires
 contains-requires c κs = search needs
 
--- src/offset.rt:426:9
 returns-3 : tie.Need-returns-3
-returns-3 c = ?
+unfolding ofBits
+returns-3 c =
+    let k = c .before in
+    let s = k .before .before in
+    let t = s .before in
+    let e = t .before .before in
+    rw (
+      e .if1 .left,
+      sym (rw (t .before .way-to .ensures) at (t .there .ensures)) ∙ s .if2 .left,
+      sym (k .contains .ensures) ∙ not-true _ (c .if3 .taken),
+    ) at (whole (e .before) _ (k .before .child-at .ensures))
 
--- src/offset.rt:428:8
 blocked-requires : tie.Need-blocked-requires
-blocked-requires c κs = ?
+blocked-requires c κs = let r = c .before .before .before .before .before .before .before .before .before .before .before .before .before .before in (r .pre .0, r .pre .1)
 
--- src/offset.rt:429:9
 returns-4 : tie.Need-returns-4
-returns-4 c = ?
+unfolding ofBits
+returns-4 c =
+    let b = c .before in
+    let k = b .before .before in
+    let s = k .before .before in
+    let t = s .before in
+    let e = t .before .before in
+    rw (
+      e .if1 .left,
+      sym (rw (t .before .way-to .ensures) at (t .there .ensures)) ∙ s .if2 .left,
+      sym (k .contains .ensures) ∙ not-false _ (b .before .if3 .left),
+      sym (b .blocked .ensures) ∙ c .if4 .taken,
+    ) at (whole (e .before) _ (k .before .child-at .ensures))
 
--- src/offset.rt:409:1
 returns-5 : tie.Need-returns-5
-returns-5 c = ?
+unfolding ofBits
+returns-5 c =
+    let b = c .before in
+    let k = b .before .before in
+    let s = k .before .before in
+    let t = s .before in
+    let e = t .before .before in
+    rw (
+      e .if1 .left,
+      sym (rw (t .before .way-to .ensures) at (t .there .ensures)) ∙ s .if2 .left,
+      sym (k .contains .ensures) ∙ not-false _ (b .before .if3 .left),
+      sym (b .blocked .ensures) ∙ c .if4 .left,
+    ) at (whole (e .before) _ (k .before .child-at .ensures))
 
 pub reposition-contained-child-spec : {M : Type 1} → statement M
 reposition-contained-child-spec =

@@ -1,93 +1,126 @@
-use Prim.Native.Nat.{ℕ, suc, _≤_, _<_, _-_, _+_}
-use native.Mathlib.Omega.{arith}
+-- `tried` meets its contract: each way out knows what the parent is, whether it has one child, and where that goes.
+use Prim.Native.Nat.{_+_, _^_}
+use mathlib.Core.Bool.{true, false}
+use mathlib.Core.List.{List}
+use mathlib.Core.Option.{some}
+use mathlib.Core.Path.{ap, sym, _∙_, _≡_}
+use lib.ListN.{length}
 use borrow.Author.Needs.{needs}
-use mathlib.Core.Path.{_≡_, refl, sym, ap, _∙_}
-use mathlib.Core.Bool.{Bool, true, false, not, _&&_, _||_, cond}
-use lib.ListN.{length, getD, set}
-use borrow.Author.Needs.{needs}
+use borrow.Author.Tests.{not-false, not-true}
+use Rattle.shapes.specs.declared.geometry.shapes.circle.Circle.{Circle}
+use Rattle.scope.specs.Offset.{parents, tried}
+use Rattle.intake.specs.Columns.{circlesOf}
+use Rattle.steps.specs.Offsets.{numbered, moment, parentAt}
+use Rattle.steps.proofs.ChildParents.{numbered-below, numbered-past, only-child}
+use Rattle.steps.proofs.OffsetMoves.{child-moved, moved-known, stays-known, tried-left, tried-moved, tried-none, tried-stays}
 use Rattle.steps.proofs.offset.tried.Statement.{statement}
 use Rattle.steps.proofs.offset.tried.Tie as tie
-use Rattle.steps.proofs.offset.tried.Reads as reads
-use Rattle.steps.proofs.offset.tried.Lts as lts
-use Rattle.steps.proofs.offset.only_child.Reads as only-child-reads
-use Rattle.steps.proofs.offset.reposition_contained_child.Reads as reposition-contained-child-reads
-use Rattle.steps.proofs.offset.wide.Reads as wide-reads
 
--- src/offset.rt:463:18
 mul-wide : tie.Need-mul-wide
 mul-wide c = search needs
 
--- src/offset.rt:463:18
 shared-slice-read-wide : tie.Need-shared-slice-read-wide
 shared-slice-read-wide c = search needs
 
--- src/offset.rt:463:9
 wide-requires : tie.Need-wide-requires
 wide-requires c κs = search needs
 
--- src/offset.rt:465:9
 returns : tie.Need-returns
-returns c = ?
+returns c =
+    let r = c .before .before .before .before .before .before .before in
+    let a = r .args in
+    let n = length (a .xs .now) in
+    let is = sym (ap (numbered n) (sym (c .before .wide .ensures)) ∙ numbered-past n _ (c .if1 .taken)) in
+    λ rs mask shows.
+    let s = moment (circlesOf (a .xs .now) (a .ys .now) (a .radii .now)) mask in
+    tried-none (parents n rs) s (a .i) ∙ ap (tried (parents n rs) s (a .i)) is
 
--- src/offset.rt:467:9
 only-child-requires : tie.Need-only-child-requires
 only-child-requires c κs = search needs
 
--- src/offset.rt:468:9
 returns-2 : tie.Need-returns-2
-returns-2 c = ?
+returns-2 c =
+    let o = c .before in
+    let e = o .before in
+    let r = c .before .before .before .before .before .before .before .before .before in
+    let a = r .args in
+    let n = length (a .xs .now) in
+    let p = e .before .wide .result in
+    let is = sym (numbered-below n p (e .if1 .left)) ∙ ap (numbered n) (e .before .wide .ensures) in
+    λ rs mask shows.
+    let s = moment (circlesOf (a .xs .now) (a .ys .now) (a .radii .now)) mask in
+    let more = sym (only-child n rs (a .parents .now) shows p) ∙ sym (rw (r .pre .2) at (o .only-child .ensures)) ∙ not-true _ (c .if2 .taken) in
+    tried-left (parents n rs) s (a .i) p more ∙ ap (tried (parents n rs) s (a .i)) is
 
--- src/offset.rt:470:9
 reposition-contained-child-requires : tie.Need-reposition-contained-child-requires
 reposition-contained-child-requires c κs = search needs
 
--- src/offset.rt:472:19
 enum-known-to : tie.Need-enum-known-to
 enum-known-to c = search needs
 
--- src/offset.rt:473:13
 mul-xs : tie.Need-mul-xs
 mul-xs c = search needs
 
--- src/offset.rt:473:13
 slice-write-xs : tie.Need-slice-write-xs
 slice-write-xs c = search needs
 
--- src/offset.rt:474:13
 mul-ys : tie.Need-mul-ys
 mul-ys c = search needs
 
--- src/offset.rt:474:13
 slice-write-ys : tie.Need-slice-write-ys
 slice-write-ys c = search needs
 
--- src/offset.rt:477:25
 enum-told : tie.Need-enum-told
 enum-told c = search needs
 
--- src/offset.rt:459:1
 same-length : tie.Need-same-length
 same-length c = search needs
 
--- src/offset.rt:459:1
 same-length-2 : tie.Need-same-length-2
 same-length-2 c = search needs
 
--- src/offset.rt:459:1
 returns-3 : tie.Need-returns-3
-returns-3 c = ?
+returns-3 c =
+    let m = c .before .before .before in
+    let t = m .before .before .before in
+    let o = t .before in
+    let e = o .before in
+    let r = c .before .before .before .before .before .before .before .before .before .before .before .before .before .before .before in
+    let a = r .args in
+    let n = length (a .xs .now) in
+    let p = e .before .wide .result in
+    let is = sym (numbered-below n p (e .if1 .left)) ∙ ap (numbered n) (e .before .wide .ensures) in
+    let to = c .before .to .given .0 .0 in
+    let goes = moved-known (m .reposition-contained-child .result) to _ (cc) (m .reposition-contained-child .ensures) in
+    λ rs mask shows.
+    let s = moment (circlesOf (a .xs .now) (a .ys .now) (a .radii .now)) mask in
+    let single = sym (only-child n rs (a .parents .now) shows p) ∙ sym (rw (r .pre .2) at (o .only-child .ensures)) ∙ not-false _ (t .if2 .left) in
+    ap (λ (cs : List Circle). moment cs (mask + 2 ^ a .i)) (child-moved (a .xs .now) (a .ys .now) (a .radii .now) p (a .i) to (r .pre .0) (r .pre .3) (r .pre .4) goes)
+    ∙ tried-moved (parents n rs) s (a .i) p to single goes
+    ∙ ap (tried (parents n rs) s (a .i)) is
 
--- src/offset.rt:459:1
 same-length-3 : tie.Need-same-length-3
 same-length-3 c = search needs
 
--- src/offset.rt:459:1
 same-length-4 : tie.Need-same-length-4
 same-length-4 c = search needs
 
--- src/offset.rt:459:1
 returns-4 : tie.Need-returns-4
-returns-4 c = ?
+returns-4 c =
+    let m = c .before .before in
+    let t = m .before .before .before in
+    let o = t .before in
+    let e = o .before in
+    let r = c .before .before .before .before .before .before .before .before .before .before .before .before .before .before in
+    let a = r .args in
+    let n = length (a .xs .now) in
+    let p = e .before .wide .result in
+    let is = sym (numbered-below n p (e .if1 .left)) ∙ ap (numbered n) (e .before .wide .ensures) in
+    let stays = stays-known (m .reposition-contained-child .result) _ (cc) (m .reposition-contained-child .ensures) in
+    λ rs mask shows.
+    let s = moment (circlesOf (a .xs .now) (a .ys .now) (a .radii .now)) mask in
+    let single = sym (only-child n rs (a .parents .now) shows p) ∙ sym (rw (r .pre .2) at (o .only-child .ensures)) ∙ not-false _ (t .if2 .left) in
+    tried-stays (parents n rs) s (a .i) p single stays ∙ ap (tried (parents n rs) s (a .i)) is
 
 pub tried-spec : {M : Type 1} → statement M
 tried-spec =
