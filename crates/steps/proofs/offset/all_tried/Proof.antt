@@ -42,7 +42,32 @@ loop-less : tie.Need-loop-less Inv-loop μ-loop
 loop-less c = omega arith
 
 loop-again : tie.Need-loop-again Inv-loop μ-loop
-loop-again c = ?
+loop-again c =
+    let t = c .before .before .before .before .before .tried in
+    let q = c .before .before .before .before .before .before .before .before in
+    let l = q .before .loop in
+    let a = c .before .before .before .before .before .before .before .before .before .before .before .before .before .before .args in
+    let below : l .i < length (a .xs .now) = omega arith in
+    let more : l .i + 1 ≤ length (a .xs .now) = omega arith in
+    let long-x = t .kept .0 ∙ l .inv .1 in
+    let long-y = t .kept .1 .0 ∙ l .inv .2 in
+    let tries = rw (l .inv .1) at (t .ensures) in
+    ⊎-elim
+    (λ w. rw (w .2, w .1 .ensures) (
+      more,
+      long-x,
+      long-y,
+      mask-grows (l .mask) (l .i) (l .inv .3),
+      λ rs shows. tried-next _ _ (a .parents .now) shows _ _ _ (l .i) below (l .inv .4 rs shows) (rw (w .0 .taken) at (tries rs (l .mask) shows)),
+    ))
+    (λ w. rw (w .1) (
+      more,
+      long-x,
+      long-y,
+      omega (arith, mask-grows (l .mask) (l .i) (l .inv .3)),
+      λ rs shows. tried-next _ _ (a .parents .now) shows _ _ _ (l .i) below (l .inv .4 rs shows) (rw (w .0 .left) at (tries rs (l .mask) shows)),
+    ))
+    (c .if1 .came)
 
 same-length : tie.Need-same-length Inv-loop μ-loop
 same-length c = omega arith
@@ -51,7 +76,13 @@ same-length-2 : tie.Need-same-length-2 Inv-loop μ-loop
 same-length-2 c = omega arith
 
 returns : tie.Need-returns Inv-loop μ-loop
-returns c = ?
+returns c =
+    let l = c .before .loop in
+    let r = c .before .before .before .before .before .before in
+    let a = r .args in
+    let all : l .i ≡ length (a .xs .now) = omega arith in
+    let shown = length-shown (a .xs .now) (a .ys .now) (a .radii .now) in
+    λ rs shows. rw all at (l .inv .4 rs shows) ∙ rw shown at (offset-all (circlesOf (a .xs .now) (a .ys .now) (a .radii .now)) rs (rw shown (r .pre .3)))
 
 pub all-tried-spec : {M : Type 1} → statement M
 all-tried-spec =

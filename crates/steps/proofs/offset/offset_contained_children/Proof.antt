@@ -1,52 +1,59 @@
-use Prim.Native.Nat.{ℕ, suc, _≤_, _<_, _-_, _+_}
+-- `offset_contained_children` meets its contract: with one circle, or where none has a parent, nothing is moved.
 use native.Mathlib.Omega.{arith}
+use mathlib.Core.Path.{refl, sym, ap, _∙_}
+use lib.ListN.{length}
 use borrow.Author.Needs.{needs}
-use mathlib.Core.Path.{_≡_, refl, sym, ap, _∙_}
-use mathlib.Core.Bool.{Bool, true, false, not, _&&_, _||_, cond}
-use lib.ListN.{length, getD, set}
-use borrow.Author.Needs.{needs}
+use Rattle.scope.specs.Links.{regions}
+use Rattle.scope.specs.Offset.{Moved as Step}
+use Rattle.intake.specs.Columns.{circlesOf}
+use Rattle.intake.proofs.Columns.{length-shown}
+use Rattle.steps.proofs.OffsetMoves.{offset-few, offset-none}
 use Rattle.steps.proofs.offset.offset_contained_children.Statement.{statement}
 use Rattle.steps.proofs.offset.offset_contained_children.Tie as tie
-use Rattle.steps.proofs.offset.offset_contained_children.Reads as reads
-use Rattle.steps.proofs.offset.offset_contained_children.Lts as lts
-use Rattle.steps.proofs.offset.all_tried.Reads as all-tried-reads
-use Rattle.steps.proofs.offset.find_parents.Reads as find-parents-reads
 
--- src/offset.rt:513:9
 returns : tie.Need-returns
-returns c = ?
+returns c =
+    let a = c .before .before .before .before .before .before .before .args in
+    let same = offset-few (circlesOf (a .xs .now) (a .ys .now) (a .radii .now)) _ (rw (length-shown (a .xs .now) (a .ys .now) (a .radii .now)) (c .if1 .taken)) in
+    (ap (λ (s : Step). s .circles) same, (ap (λ (s : Step). s .mask) same, (refl, refl)))
 
--- src/offset.rt:515:8
 find-parents-requires : tie.Need-find-parents-requires
 find-parents-requires c κs = search needs
 
--- src/offset.rt:516:9
 all-tried-requires : tie.Need-all-tried-requires
-all-tried-requires c κs = ?
+all-tried-requires c κs =
+    let r = c .before .before .before .before .before .before .before .before .before .before .before .before .before .before .before in
+    (r .pre .0, r .pre .1, c .before .before .before .before .before .before .find-parents .kept .1 .1 .1 .0 ∙ r .pre .2, c .before .before .before .before .before .before .before .before .if1 .left, r .pre .3, r .pre .5)
 
--- src/offset.rt:516:9
 same-length : tie.Need-same-length
 same-length c = search needs
 
--- src/offset.rt:516:9
 same-length-2 : tie.Need-same-length-2
 same-length-2 c = search needs
 
--- src/offset.rt:516:9
 same-length-3 : tie.Need-same-length-3
 same-length-3 c = search needs
 
--- src/offset.rt:516:9
 returns-2 : tie.Need-returns-2
-returns-2 c = ?
+returns-2 c =
+    let t = c .before .before .before .before .all-tried in
+    let f = c .before .before .before .before .before .before .before .before .before .before .before .find-parents in
+    let r = c .before .before .before .before .before .before .before .before .before .before .before .before .before .before .before .before .before .before .before .before in
+    let same = t .ensures _ (rw (r .pre .2) at (f .ensures .0)) in
+    (ap (λ (s : Step). s .circles) same, (ap (λ (s : Step). s .mask) same, (t .kept .0, t .kept .1 .0)))
 
--- src/offset.rt:498:1
 same-length-4 : tie.Need-same-length-4
 same-length-4 c = search needs
 
--- src/offset.rt:498:1
 returns-3 : tie.Need-returns-3
-returns-3 c = ?
+returns-3 c =
+    let f = c .before .before .before .find-parents in
+    let r = c .before .before .before .before .before .before .before .before .before .before .before .before in
+    let a = r .args in
+    let shown = length-shown (a .xs .now) (a .ys .now) (a .radii .now) in
+    let many = c .before .before .before .before .before .if1 .left in
+    let same = offset-none (circlesOf (a .xs .now) (a .ys .now) (a .radii .now)) (regions (a .masks .now) (a .areas .now)) (rw shown many) (f .last .1 .1 .1 .0) (rw (shown, ← r .pre .2) (f .ensures .0)) (rw (shown, ← r .pre .2) (f .ensures .1 (c .if2 .left))) in
+    (ap (λ (s : Step). s .circles) same, (ap (λ (s : Step). s .mask) same, (refl, refl)))
 
 pub offset-contained-children-spec : {M : Type 1} → statement M
 offset-contained-children-spec =
