@@ -253,7 +253,9 @@ fn overlap(a: Circle, b: Circle) -> bool
     ensures { λ r. ⌜ r ≡ overlap a b ⌝ }
 {
     let d = centre_distance(a, b);
-    crossing(d, a.radius, b.radius) || within(d, b.radius, a.radius) || within(d, a.radius, b.radius)
+    crossing(d, a.radius, b.radius)
+        || within(d, b.radius, a.radius)
+        || within(d, a.radius, b.radius)
 }
 
 // ---- the move

@@ -49,8 +49,7 @@ loop-again c =
     let n = length (r .args .parents .now) in
     let rs = regions (r .args .masks .now) (r .args .areas .now) in
     let inside : l .i < length (l .parents) = omega arith in
-    let here = p .ensures .1 ∙ at-tolerance n rs _ (l .i) (r .pre .2) in
-    (
+    let here = p .ensures .1 ∙ at-tolerance n rs _ (l .i) (r .pre .2) in (
       omega arith,
       length-set (l .parents) (l .i) (p .result) ∙ l .inv .1,
       one-more-number (λ j x. numbered n x ≡ parentOf n rs j) (l .parents) (l .i) (p .result) inside (l .inv .2) here,

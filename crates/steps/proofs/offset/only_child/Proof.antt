@@ -42,7 +42,6 @@ loop-less c = omega arith
 
 loop-again : tie.Need-loop-again Inv-loop μ-loop
 loop-again c =
-    let w = c .before in
     let l = c .before .before .before .before .loop in
     let r = c .before .before .before .before .before .before in
     let a = r .args in

@@ -29,6 +29,14 @@ whole m c =
     let child = u .before in
     repositioned-by _ _ _ _ _ (child .before .at .ensures) (child .at2 .ensures) _ _ (u .direction .ensures) (m .max-contained-offset .ensures) c
 
+-- whether the move is too short, in the definition's words
+short : (t : tie.After-there)
+    → (let m = t .before .before .before in
+    let dMax = m .max-contained-offset .result in
+    t .there .result ≡ there (move (m .before .before .before .at .result) (m .before .before .at2 .result) (m .before .direction .result) (half *ᶠ dMax)) dMax)
+unfolding ofBits
+short t = rw (t .before .way-to .ensures) at (t .there .ensures)
+
 at-requires : tie.Need-at-requires
 at-requires c κs = search needs
 
@@ -58,7 +66,7 @@ returns-2 c =
     let e = t .before .before in
     rw (
       e .if1 .left,
-      sym (rw (t .before .way-to .ensures) at (t .there .ensures)) ∙ c .if2 .taken,
+      sym (short t) ∙ c .if2 .taken,
     ) at (whole (e .before) _ refl)
 
 child-at-requires : tie.Need-child-at-requires
@@ -76,7 +84,7 @@ returns-3 c =
     let e = t .before .before in
     rw (
       e .if1 .left,
-      sym (rw (t .before .way-to .ensures) at (t .there .ensures)) ∙ s .if2 .left,
+      sym (short t) ∙ s .if2 .left,
       sym (k .contains .ensures) ∙ not-true _ (c .if3 .taken),
     ) at (whole (e .before) _ (k .before .child-at .ensures))
 
@@ -93,7 +101,7 @@ returns-4 c =
     let e = t .before .before in
     rw (
       e .if1 .left,
-      sym (rw (t .before .way-to .ensures) at (t .there .ensures)) ∙ s .if2 .left,
+      sym (short t) ∙ s .if2 .left,
       sym (k .contains .ensures) ∙ not-false _ (b .before .if3 .left),
       sym (b .blocked .ensures) ∙ c .if4 .taken,
     ) at (whole (e .before) _ (k .before .child-at .ensures))
@@ -108,7 +116,7 @@ returns-5 c =
     let e = t .before .before in
     rw (
       e .if1 .left,
-      sym (rw (t .before .way-to .ensures) at (t .there .ensures)) ∙ s .if2 .left,
+      sym (short t) ∙ s .if2 .left,
       sym (k .contains .ensures) ∙ not-false _ (b .before .if3 .left),
       sym (b .blocked .ensures) ∙ c .if4 .left,
     ) at (whole (e .before) _ (k .before .child-at .ensures))
