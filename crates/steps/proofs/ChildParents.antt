@@ -1,5 +1,5 @@
 -- The parent of a contained child: the one circle of a mask, if the child has no region of its own and is smaller by total. The list of all parents' numbers.
-use Prim.Native.Nat.{ℕ, suc, _+_, _^_, _≤_, _<_}
+use Prim.Native.Nat.{ℕ, _+_, _^_, _≤_, _<_}
 use native.Mathlib.Omega.{arith}
 use native.Mathlib.Numerals.{add-one}
 use native.Mathlib.Decide.{ℕ-discrete}
@@ -22,7 +22,7 @@ use Rattle.scope.specs.Tolerance.{tolerance}
 use Rattle.scope.specs.Offset.{areaWithMask, otherBits, containedChildParent, smaller, ifSmaller, parentOf, isParent, parents, onlyChild}
 use Rattle.promises.proofs.Cases.{eqb-iff}
 use Rattle.promises.proofs.Regions.{length-regions}
-use Rattle.promises.proofs.Runs.{least-at, least-none, least-at-most, length-tab, getD-tab, many-equal}
+use Rattle.promises.proofs.Runs.{least-at, least-none, length-tab, getD-tab, many-equal}
 use Rattle.steps.specs.Offsets.{numbered, parentAt, ParentsOf}
 use Rattle.steps.proofs.LoneBits.{never-more, zeros-below}
 use Rattle.steps.proofs.RegionFolds.{gathered, joinOthers}

@@ -16,11 +16,11 @@ use Rattle.shapes.specs.declared.geometry.primitives.point.Point.{Point}
 use Rattle.shapes.specs.declared.geometry.shapes.circle.Circle.{Circle}
 use Rattle.shapes.specs.Lift.{lift}
 use Rattle.scope.specs.Numbers.{_*ᶠ_, _≤ᶠ_, nought, half}
-use Rattle.scope.specs.Runs.{inTurn, someBelow}
+use Rattle.scope.specs.Runs.{inTurn}
 use Rattle.scope.specs.Distance.{contains}
 use Rattle.scope.specs.Links.{Region, circle, nowhere, overlap}
 use Rattle.scope.specs.Offset.{parentOf, parents, onlyChild, translated, move, childAt, maxContainedOffset, direction, blocked, there, repositioned, Moved as Step, replaced, tried, offset}
-use Rattle.intake.specs.Columns.{at, circleOf, circlesOf, Lifted}
+use Rattle.intake.specs.Columns.{at, circlesOf, Lifted}
 use Rattle.intake.proofs.Columns.{length-shown, shown-at}
 use Rattle.promises.proofs.Cases.{is-true, is-false}
 use Rattle.promises.proofs.Runs.{NoneBelow, someBelow-iff, passes-below, getD-tab}

@@ -32,7 +32,6 @@ ghost use Rattle.scope.specs.Offset.{
   there,
   repositioned,
   ifSmaller,
-  parentOf,
   parents as allParents,
   isParent,
   tried,
@@ -460,7 +459,7 @@ fn only_child(parents: &[u16], p: usize) -> bool
 // Moves circle i if it is its parent's only child: of several, one could be moved onto another. Whether it was moved.
 fn tried(xs: &mut [f64], ys: &mut [f64], radii: &[f64], parents: &[u16], i: usize) -> bool
     requires { ⌜ (length (now ys) ≡ length (now xs)) × (length (now radii) ≡ length (now xs)) × (length (now parents) ≡ length (now xs)) × (i < length (now xs)) × Lifted (now radii) ⌝ }
-    ensures { λ r. ⌜ ((rs : List Region) (mask : ℕ) → ParentsOf (length (now (xs .entry))) rs (now (parents .entry)) → moment (circlesOf (now (xs .exit)) (now (ys .exit)) (now (radii .entry))) (cond r (mask + 2 ^ i) mask) ≡ tried (allParents (length (now (xs .entry))) rs) (moment (circlesOf (now (xs .entry)) (now (ys .entry)) (now (radii .entry))) mask) i (parentAt (length (now (xs .entry))) (now (parents .entry)) i)) ⌝ }
+    ensures { λ r. ⌜ (let n = length (now (xs .entry)) in let before = circlesOf (now (xs .entry)) (now (ys .entry)) (now (radii .entry)) in let after = circlesOf (now (xs .exit)) (now (ys .exit)) (now (radii .entry)) in (rs : List Region) (mask : ℕ) → ParentsOf n rs (now (parents .entry)) → moment after (cond r (mask + 2 ^ i) mask) ≡ tried (allParents n rs) (moment before mask) i (parentAt n (now (parents .entry)) i)) ⌝ }
 {
     let p = wide(parents[i]);
     if p >= xs.len() {

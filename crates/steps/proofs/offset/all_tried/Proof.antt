@@ -3,9 +3,8 @@ use Prim.Native.Nat.{_+_, _-_, _^_, _<_, _≤_}
 use native.Mathlib.Omega.{arith}
 use mathlib.Core.List.{List}
 use mathlib.Core.Logic.{⊎-elim}
-use mathlib.Core.Path.{refl, sym, ap, _∙_, _≡_}
+use mathlib.Core.Path.{refl, _∙_, _≡_}
 use lib.ListN.{length}
-use borrow.Author.Needs.{needs}
 use Rattle.scope.specs.Links.{Region}
 use Rattle.scope.specs.Runs.{inTurn}
 use Rattle.intake.specs.Columns.{circlesOf}

@@ -1,8 +1,7 @@
 -- `is_several` meets its contract: a mask of one bit has nothing in common with the number before it.
-use mathlib.Core.Path.{sym, ap, _∙_, _≡_}
-use mathlib.Core.Bool.{not, false≢true}
+use mathlib.Core.Path.{ap, _∙_}
+use mathlib.Core.Bool.{false≢true}
 use lib.Bits.{bitAnd}
-use lib.Dec.{eqb}
 use borrow.Author.Needs.{needs}
 use borrow.Author.Tests.{not-true, eqb-false}
 use Prim.Native.Nat.{ℕ, _-_}

@@ -1,7 +1,5 @@
 -- `offset_contained_children` meets its contract: with one circle, or where none has a parent, nothing is moved.
-use native.Mathlib.Omega.{arith}
-use mathlib.Core.Path.{refl, sym, ap, _∙_}
-use lib.ListN.{length}
+use mathlib.Core.Path.{refl, ap, _∙_}
 use borrow.Author.Needs.{needs}
 use Rattle.scope.specs.Links.{regions}
 use Rattle.scope.specs.Offset.{Moved as Step}

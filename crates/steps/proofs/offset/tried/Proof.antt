@@ -1,6 +1,5 @@
 -- `tried` meets its contract: each way out knows what the parent is, whether it has one child, and where that goes.
 use Prim.Native.Nat.{_+_, _^_}
-use mathlib.Core.Bool.{true, false}
 use mathlib.Core.List.{List}
 use mathlib.Core.Option.{some}
 use mathlib.Core.Path.{ap, sym, _∙_, _≡_}
@@ -53,7 +52,7 @@ returns-2 : tie.Need-returns-2
 returns-2 c =
     let o = c .before in
     let e = o .before in
-    let r = c .before .before .before .before .before .before .before .before .before in
+    let r = e .before .before .before .before .before .before .before in
     let a = r .args in
     let n = length (a .xs .now) in
     let p = e .before .wide .result in
@@ -95,7 +94,7 @@ returns-3 c =
     let t = m .before .before .before in
     let o = t .before in
     let e = o .before in
-    let r = c .before .before .before .before .before .before .before .before .before .before .before .before .before .before .before in
+    let r = e .before .before .before .before .before .before .before in
     let a = r .args in
     let n = length (a .xs .now) in
     let p = e .before .wide .result in
@@ -120,7 +119,7 @@ returns-4 c =
     let t = m .before .before .before in
     let o = t .before in
     let e = o .before in
-    let r = c .before .before .before .before .before .before .before .before .before .before .before .before .before .before in
+    let r = e .before .before .before .before .before .before .before in
     let a = r .args in
     let n = length (a .xs .now) in
     let p = e .before .wide .result in
