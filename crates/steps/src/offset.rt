@@ -122,7 +122,7 @@ fn without(mask: u64, i: usize) -> u64
     mask - only(i)
 }
 
-// Whether a mask holds two circles or more: taking 1 off changes its lowest bit and those below.
+// Whether a mask holds two circles or more: those above the lowest stay when 1 is taken off.
 fn is_several(mask: u64) -> bool
     ensures { λ r. ⌜ (r ≡ true → (mask ≡ 0 → ⊥) × ((q : ℕ) → mask ≡ 2 ^ q → ⊥)) ⌝ }
 {

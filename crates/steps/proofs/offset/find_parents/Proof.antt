@@ -1,4 +1,4 @@
--- `find_parents` meets its contract: the numbers of the first i parents stand in the list, and none of them says so while `any` is false.
+-- `find_parents` meets its contract: the parents of the first i circles stand in the list, and while `any` is false none of them has one.
 use Prim.Native.Nat.{_-_, _<_, ℕ, _≤_}
 use native.Mathlib.Omega.{arith}
 use mathlib.Core.Bool.{true, false, false≢true}

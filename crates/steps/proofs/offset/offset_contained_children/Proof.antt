@@ -1,4 +1,4 @@
--- `offset_contained_children` meets its contract: with one circle, or where none has a parent, nothing is moved.
+-- `offset_contained_children` meets its contract: of fewer than two circles, or where none has a parent, nothing is moved.
 use mathlib.Core.Path.{refl, ap, _∙_}
 use borrow.Author.Needs.{needs}
 use Rattle.scope.specs.Links.{regions}

@@ -1,4 +1,4 @@
--- `partner` meets its contract: the partners in the first k regions are known, and never two.
+-- `partner` meets its contract: the partners in the first k regions are known, and two of them are never one again.
 use Prim.Native.Nat.{_-_, _+_, _≤_}
 use native.Mathlib.Omega.{arith}
 use mathlib.Core.Logic.{⊎-elim}
