@@ -1,3 +1,11 @@
+pub mod Offsets
+pub mod Ranges
+pub mod Turns
+pub mod ClusterBoxes
+pub mod Settling
 pub mod Answers
-pub mod First
+pub mod Answered
+pub mod Recentred
 pub mod FirstLayout
+pub mod Laid
+pub mod Contained

@@ -1,2 +1,10 @@
-// The layout of circles as a whole. A call checks its own arguments and relies on no earlier check.
+// Layouts: circles that belong together kept together, clusters apart, the whole about the origin. The steps work in place, over lists of numbers of one
+// length: the circles' x, their y, their radii, their clusters' numbers.
+mod axis;
+mod boxes;
+pub mod container;
+mod gauge;
+mod lent;
 pub mod normalize;
+mod offset;
+mod settling;

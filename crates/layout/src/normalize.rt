@@ -1,54 +1,45 @@
-// Layouts brought to a standard place: children, clusters and all, centred on the origin, or in a container that stands there.
+// The whole layout: children moved off their parents' centres, each cluster turned and mirrored, the clusters packed, and all of it centred.
 ghost use mathlib.Core.Path.{_≡_};
-ghost use mathlib.Core.Bool.{cond};
-ghost use mathlib.Core.List.{List, []};
-ghost use Prim.Native.Nat.{_≤_};
+ghost use mathlib.Core.List.{[]};
+ghost use Prim.Native.Nat.{_≤_, _<_};
 ghost use lib.ListN.{length, take};
 ghost use Rattle.scope.specs.Numbers.{golden};
-ghost use Rattle.scope.specs.Runs.{always, filled};
-ghost use Rattle.scope.specs.Limits.{circleCap};
 ghost use Rattle.scope.specs.Links.{regions};
-ghost use Rattle.scope.specs.Refusals.{tooMany, regionsRefusal, containerRefusal};
-ghost use Rattle.scope.specs.Packing.{noRectangle};
-ghost use Rattle.scope.specs.Padding.{boxAll, asRectangle, boxes, padding, shift, shifted, packClusters};
-ghost use Rattle.scope.specs.Centring.{allTranslated, centredLayout};
+ghost use Rattle.scope.specs.Refusals.{layoutRefusal};
+ghost use Rattle.scope.specs.Tolerance.{tolerance};
+ghost use Rattle.scope.specs.Offset.{offset};
+ghost use Rattle.scope.specs.Gauge.{gauged};
+ghost use Rattle.scope.specs.Padding.{boxes, padding};
 ghost use Rattle.scope.specs.Layout.{layout, arranged, refusedLayout};
 ghost use Rattle.scope.specs.Promises.{Promises};
-ghost use Rattle.scope.specs.Container.{reachesPast, centredIn, settled, contained};
-ghost use Rattle.promises.specs.Demand3.{bound};
+ghost use Rattle.promises.specs.Demand3.{bound, AreDoubles};
 ghost use Rattle.intake.specs.Limits.{maxCircles};
-ghost use Rattle.intake.specs.First.{onFirst};
-ghost use Rattle.layout.specs.Answers.{inContainer, resultOf, laidOut};
-ghost use Rattle.layout.specs.FirstLayout.{Numbered, layoutNumber, withOthers, firstLayout, firstOf, laidLoaded};
-ghost use Rattle.layout.specs.First.{withRest, firstContained, placedOf, placedLoaded, off, near};
-use gauge::cluster_box;
-use gauge::gauged_clusters;
-use geometry::circle::absolute;
-use geometry::extent::middle;
-use geometry::extent::nothing;
-use geometry::extent::translated;
-use geometry::point::root_or_nan;
-use grid::packing::raw_pack;
+ghost use Rattle.intake.specs.Columns.{circlesOf, Lifted};
+ghost use Rattle.intake.specs.CauseWords.{front};
+ghost use Rattle.layout.specs.Answers.{resultOf, laidOut};
+ghost use Rattle.layout.specs.ClusterBoxes.{Numbered, BoxLists};
+ghost use Rattle.layout.specs.FirstLayout.{firstLayout};
+ghost use Rattle.layout.specs.Laid.{Laid, Packable, packedClusters, settledClusters};
+use crate::axis::center_layout;
+use crate::boxes::cluster_boxes;
+use crate::boxes::padding_of;
+use crate::boxes::shift;
+use crate::gauge::gauged_clusters;
+use crate::offset::offset_contained_children;
+use crate::offset::tolerance;
 use grouping::clustering::find_clusters_from_exclusive_regions;
-use intake::lent::Loaded;
-use intake::lent::load;
-use intake::lent::store;
-use intake::lent_boxes::no_rectangle;
+use intake::causes::number_of;
+use intake::causes::of_circles;
+use intake::causes::of_factor;
+use intake::causes::of_regions;
 use intake::limits::MAX_CIRCLES;
-use intake::limits::bad_factor;
-use intake::limits::bad_point;
-use intake::limits::bad_side;
-use intake::refusals::circles_refusal;
-use intake::refusals::regions_refusal;
-use offset::offset_contained_children;
-use offset::tolerance;
-use shapes::extremes::maximum;
-use shapes::geometry::primitives::bounds::Bounds;
+
+use packing::pack_sides;
 use shapes::geometry::primitives::point::Point;
 use shapes::geometry::shapes::circle::Circle;
-use shapes::geometry::shapes::rectangle::Rectangle;
 
 // Document 01's result: a refusal's number or 0, the clusters, the mask of the moved circles, and the padding. What is not used is 0.
+#[repr(C)]
 pub struct Result {
     pub refusal: u8,
     pub count: usize,
@@ -58,86 +49,29 @@ pub struct Result {
 }
 
 // The result, and the circles: as they were given where the call is refused.
+#[repr(C)]
 pub struct Layout {
     pub result: Result,
     pub circles: [Circle; MAX_CIRCLES],
 }
 
-// A refusal's number or 0, and the container and the circles: as they were given where the call is refused.
-pub struct InContainer {
-    pub refusal: u8,
-    pub container: Rectangle,
-    pub circles: [Circle; MAX_CIRCLES],
-}
-
-// The same without the circles, for a lent run: they are rewritten there.
-pub struct Placed {
-    pub refusal: u8,
-    pub container: Rectangle,
-}
-
-struct PlacedCircles {
-    answer: Placed,
-    layout: Loaded,
-}
-
-struct LaidCircles {
-    result: Result,
-    layout: Loaded,
-}
-
-// ---- the whole layout
-
-// Moves children off their parents' centres, turns and mirrors each cluster, packs the clusters and centres the whole.
-// Only the first n circles are looked at and moved.
-// Refused: too many circles (1), lists of unequal length (13), too many regions (2), a centre (3), a radius (4), masks that do not rise (5), the factor (6).
-pub fn normalize_layout_with_clusters_by_value(
-    circles: [Circle; MAX_CIRCLES],
+// The layout of circles whose numbers stand in the front of three arrays.
+fn laid(
+    xs: &mut [f64; MAX_CIRCLES],
+    ys: &mut [f64; MAX_CIRCLES],
+    radii: &[f64; MAX_CIRCLES],
     n: usize,
     factor: f64,
     masks: &[u64],
     areas: &[f64],
-) -> Layout
-    ensures answer { λ r. ⌜ laidOut r ≡ firstLayout n circles factor (now (masks .entry)) (now (areas .entry)) ⌝ }
-    ensures promises { λ r. ⌜ (r .result .refusal ≡ 0 → Promises bound (take n circles) (regions (now (masks .entry)) (now (areas .entry))) (resultOf (r .result)) (take n (r .circles))) ⌝ }
-{
-    let number = layout_refusal(circles, n, factor, masks, areas);
-    if number != 0 {
-        return Layout {
-            result: refused(number),
-            circles,
-        };
-    }
-    arranged(circles, n, factor, masks, areas)
-}
-
-// The same of a lent run. More circles than there is room for are refused, and stay as they are.
-pub fn normalize_layout_with_clusters(
-    circles: &mut [Circle],
-    factor: f64,
-    masks: &[u64],
-    areas: &[f64],
 ) -> Result
-    ensures { λ r. ⌜ (resultOf r ≡ layout (now (circles .entry)) factor (now (masks .entry)) (now (areas .entry)) .result) × (now (circles .exit) ≡ layout (now (circles .entry)) factor (now (masks .entry)) (now (areas .entry)) .circles) × (r .refusal ≡ 0 → Promises bound (now (circles .entry)) (regions (now (masks .entry)) (now (areas .entry))) (resultOf r) (now (circles .exit))) ⌝ }
+    ensures { λ r. ⌜ Laid (now (xs .entry)) (now (ys .entry)) (now (radii .entry)) n factor (now (masks .entry)) (now (areas .entry)) r (now (xs .exit)) (now (ys .exit)) ⌝ }
 {
-    let l = load(circles);
-    let d = layout_loaded(l, factor, masks, areas);
-    store(circles, d.layout);
-    d.result
-}
-
-fn layout_loaded(l: Loaded, factor: f64, masks: &[u64], areas: &[f64]) -> LaidCircles
-    ensures { λ r. ⌜ (r ≡ laidLoaded l factor (now (masks .entry)) (now (areas .entry))) × (r .result .refusal ≡ 0 → Promises bound (take (l .n) (l .circles)) (regions (now (masks .entry)) (now (areas .entry))) (resultOf (r .result)) (take (l .n) (r .layout .circles))) ⌝ }
-{
-    let circles = l.circles;
-    let n = l.n;
-    let r = normalize_layout_with_clusters_by_value(circles, n, factor, masks, areas);
-    let result = r.result;
-    let laid = r.circles;
-    LaidCircles {
-        result,
-        layout: Loaded { circles: laid, n },
+    let refusal = number_of(of_circles(xs, ys, radii, n) | of_regions(masks, areas) | of_factor(factor));
+    if refusal != 0 {
+        return refused(refusal);
     }
+    in_front(xs, ys, radii, n, factor, masks, areas)
 }
 
 fn refused(number: u8) -> Result
@@ -152,369 +86,142 @@ fn refused(number: u8) -> Result
     }
 }
 
-fn layout_refusal(
-    circles: [Circle; MAX_CIRCLES],
+fn in_front(
+    xs: &mut [f64],
+    ys: &mut [f64],
+    radii: &[f64],
     n: usize,
     factor: f64,
     masks: &[u64],
     areas: &[f64],
-) -> u8
-    ensures { λ r. ⌜ r ≡ layoutNumber n circles factor (now (masks .entry)) (now (areas .entry)) ⌝ }
+) -> Result
+    requires { ⌜ (n ≤ maxCircles) × (length (now xs) ≡ maxCircles) × (length (now ys) ≡ maxCircles) × (length (now radii) ≡ maxCircles) × (layoutRefusal (front n (now xs) (now ys) (now radii)) factor (now masks) (now areas) ≡ 0) ⌝ }
+    ensures { λ r. ⌜ Laid (now (xs .entry)) (now (ys .entry)) (now (radii .entry)) n factor (now (masks .entry)) (now (areas .entry)) r (now (xs .exit)) (now (ys .exit)) ⌝ }
 {
-    let of_regions = regions_refusal(n, masks, areas);
-    let of_circles = circles_refusal(circles, n);
-    let of_factor = bad_factor(factor);
-    first_refusal(of_regions, of_circles, of_factor)
+    arranged(&mut xs[0..n], &mut ys[0..n], &radii[0..n], factor, masks, areas)
 }
 
-// Masks that do not rise come after the circles, what else is wrong with the regions before them.
-fn first_refusal(of_regions: u8, of_circles: u8, of_factor: bool) -> u8
-    ensures { λ r. ⌜ r ≡ firstOf «of_regions» «of_circles» «of_factor» ⌝ }
-{
-    if of_regions == 1 {
-        return 1;
-    }
-    if of_regions == 13 {
-        return 13;
-    }
-    if of_regions == 2 {
-        return 2;
-    }
-    if of_circles != 0 {
-        return of_circles;
-    }
-    if of_regions != 0 {
-        return of_regions;
-    }
-    if of_factor {
-        return 6;
-    }
-    0
-}
+// ---- the steps, one after the other
 
 fn arranged(
-    circles: [Circle; MAX_CIRCLES],
-    n: usize,
+    xs: &mut [f64],
+    ys: &mut [f64],
+    radii: &[f64],
     factor: f64,
     masks: &[u64],
     areas: &[f64],
-) -> Layout
-    requires { ⌜ (n ≤ maxCircles) × (regionsRefusal n (now masks) (now areas) ≡ 0) × (length (now masks) ≡ length (now areas)) ⌝ }
-    ensures { λ r. ⌜ laidOut r ≡ withOthers n circles (arranged golden (take n circles) factor (regions (now (masks .entry)) (now (areas .entry)))) ⌝ }
+) -> Result
+    requires { ⌜ (length (now xs) ≤ maxCircles) × (length (now ys) ≡ length (now xs)) × (length (now radii) ≡ length (now xs)) × (layoutRefusal (circlesOf (now xs) (now ys) (now radii)) factor (now masks) (now areas) ≡ 0) × AreDoubles (circlesOf (now xs) (now ys) (now radii)) factor ⌝ }
+    ensures result { λ r. ⌜ resultOf r ≡ arranged golden (circlesOf (now (xs .entry)) (now (ys .entry)) (now (radii .entry))) factor (regions (now (masks .entry)) (now (areas .entry))) .result ⌝ }
+    ensures circles { λ r. ⌜ circlesOf (now (xs .exit)) (now (ys .exit)) (now (radii .entry)) ≡ arranged golden (circlesOf (now (xs .entry)) (now (ys .entry)) (now (radii .entry))) factor (regions (now (masks .entry)) (now (areas .entry))) .circles ⌝ }
 {
-    let step = offset_contained_children(circles, n, masks, areas);
-    let moved = step.mask;
-    let parted = step.circles;
-    let clusters = find_clusters_from_exclusive_regions(n, masks, areas, tolerance(areas));
-    let count = clusters.count;
+    let n = xs.len();
+    let tol = tolerance(areas);
+    let moved = parted(xs, ys, radii, masks, areas, tol);
+    let clusters = find_clusters_from_exclusive_regions(n, masks, areas, tol);
     let numbers = clusters.numbers;
-    let turned = gauged_clusters(parted, n, numbers, count);
-    let boxes = cluster_boxes(turned, n, numbers, count);
-    let padding = padding_of(boxes, count, factor);
-    let packed = pack_clusters(turned, n, numbers, boxes, count, padding);
-    let result = Result {
+    let padding = placed(xs, ys, radii, &numbers[0..n], clusters.count, factor);
+    Result {
         refusal: 0,
-        count,
+        count: clusters.count,
         numbers,
         moved,
         padding,
-    };
-    let centred = center_layout(packed, n);
-    Layout {
-        result,
-        circles: centred,
     }
 }
 
-// ---- packing
+// Children off their parents' centres, with room for the parents.
+fn parted(
+    xs: &mut [f64],
+    ys: &mut [f64],
+    radii: &[f64],
+    masks: &[u64],
+    areas: &[f64],
+    tol: f64,
+) -> u64
+    requires { ⌜ (length (now ys) ≡ length (now xs)) × (length (now radii) ≡ length (now xs)) × (length (now xs) ≤ maxCircles) × (length (now masks) ≡ length (now areas)) × Lifted (now radii) × (tol ≡ tolerance (regions (now masks) (now areas))) ⌝ }
+    ensures circles { λ r. ⌜ circlesOf (now (xs .exit)) (now (ys .exit)) (now (radii .entry)) ≡ offset (circlesOf (now (xs .entry)) (now (ys .entry)) (now (radii .entry))) (regions (now (masks .entry)) (now (areas .entry))) .circles ⌝ }
+    ensures mask { λ r. ⌜ r ≡ offset (circlesOf (now (xs .entry)) (now (ys .entry)) (now (radii .entry))) (regions (now (masks .entry)) (now (areas .entry))) .mask ⌝ }
+{
+    let n = xs.len();
+    let mut parents = [0u16; MAX_CIRCLES];
+    offset_contained_children(xs, ys, radii, masks, areas, tol, &mut parents[0..n])
+}
 
-// A box for each cluster.
-fn cluster_boxes(
-    circles: [Circle; MAX_CIRCLES],
-    n: usize,
-    numbers: [u8; MAX_CIRCLES],
+// Each cluster turned, the clusters packed, the whole centred; the padding between them.
+fn placed(
+    xs: &mut [f64],
+    ys: &mut [f64],
+    radii: &[f64],
+    numbers: &[u8],
     count: usize,
-) -> [Rectangle; MAX_CIRCLES]
-    requires { ⌜ count ≤ maxCircles ⌝ }
-    ensures { λ r. ⌜ r ≡ filled circleCap noRectangle (boxes count numbers (take n circles)) ⌝ }
+    factor: f64,
+) -> f64
+    requires { ⌜ (length (now ys) ≡ length (now xs)) × (length (now radii) ≡ length (now xs)) × (length (now numbers) ≡ length (now xs)) × Lifted (now radii) × (count ≤ maxCircles) × Numbered count (now numbers) × Packable count (now numbers) (gauged count (now numbers) (circlesOf (now xs) (now ys) (now radii))) factor ⌝ }
+    ensures padding { λ r. ⌜ r ≡ padding (boxes count (now (numbers .entry)) (gauged count (now (numbers .entry)) (circlesOf (now (xs .entry)) (now (ys .entry)) (now (radii .entry))))) factor ⌝ }
+    ensures circles { λ r. ⌜ circlesOf (now (xs .exit)) (now (ys .exit)) (now (radii .entry)) ≡ settledClusters count (now (numbers .entry)) factor (gauged count (now (numbers .entry)) (circlesOf (now (xs .entry)) (now (ys .entry)) (now (radii .entry)))) ⌝ }
 {
-    let mut boxes = [no_rectangle(); MAX_CIRCLES];
-    let mut a: usize = 0;
-    while a < count {
-        boxes[a] = as_rectangle(cluster_box(circles, n, numbers, a));
-        a += 1;
-    }
-    boxes
+    gauged_clusters(xs, ys, numbers, count);
+    let padding = pack_clusters(xs, ys, radii, numbers, count, factor);
+    center_layout(xs, ys, radii);
+    padding
 }
 
-fn as_rectangle(b: Bounds) -> Rectangle
-    ensures { λ r. ⌜ r ≡ asRectangle b ⌝ }
-{
-    let center = Point::new(middle(b.x_min, b.x_max), middle(b.y_min, b.y_max));
-    Rectangle::new(center, b.width(), b.height())
-}
-
-// The factor of the side of a square as large as all boxes together. One cluster alone needs none.
-fn padding_of(boxes: [Rectangle; MAX_CIRCLES], count: usize, factor: f64) -> f64
-    requires { ⌜ count ≤ maxCircles ⌝ }
-    ensures { λ r. ⌜ r ≡ padding (take count boxes) factor ⌝ }
+// The clusters in the grid, each circle moved as its cluster's box is. One cluster alone stays where it is.
+fn pack_clusters(
+    xs: &mut [f64],
+    ys: &mut [f64],
+    radii: &[f64],
+    numbers: &[u8],
+    count: usize,
+    factor: f64,
+) -> f64
+    requires { ⌜ (length (now ys) ≡ length (now xs)) × (length (now radii) ≡ length (now xs)) × (length (now numbers) ≡ length (now xs)) × Lifted (now radii) × (count ≤ maxCircles) × Numbered count (now numbers) × Packable count (now numbers) (circlesOf (now xs) (now ys) (now radii)) factor ⌝ }
+    ensures padding { λ r. ⌜ r ≡ padding (boxes count (now (numbers .entry)) (circlesOf (now (xs .entry)) (now (ys .entry)) (now (radii .entry)))) factor ⌝ }
+    ensures circles { λ r. ⌜ circlesOf (now (xs .exit)) (now (ys .exit)) (now (radii .entry)) ≡ packedClusters count (now (numbers .entry)) factor (circlesOf (now (xs .entry)) (now (ys .entry)) (now (radii .entry))) ⌝ }
 {
     if count < 2 {
         return 0.0;
     }
-    let mut sum = 0.0;
-    let mut a: usize = 0;
-    while a < count {
-        let b = boxes[a];
-        sum = sum + b.width * b.height;
-        a += 1;
-    }
-    root_or_nan(sum) * factor
+    let mut across = [0.0; MAX_CIRCLES];
+    let mut widths = [0.0; MAX_CIRCLES];
+    let mut up = [0.0; MAX_CIRCLES];
+    let mut heights = [0.0; MAX_CIRCLES];
+    let padding = boxed(
+        xs,
+        ys,
+        radii,
+        numbers,
+        factor,
+        &mut across[0..count],
+        &mut widths[0..count],
+        &mut up[0..count],
+        &mut heights[0..count],
+    );
+    let mut new_xs = [0.0; MAX_CIRCLES];
+    let mut new_ys = [0.0; MAX_CIRCLES];
+    pack_sides(&widths, &heights, count, padding, &mut new_xs, &mut new_ys);
+    shift(xs, numbers, &across, &new_xs);
+    shift(ys, numbers, &up, &new_ys);
+    padding
 }
 
-// The clusters in the grid, each circle moved as its cluster's box is.
-fn pack_clusters(
-    circles: [Circle; MAX_CIRCLES],
-    n: usize,
-    numbers: [u8; MAX_CIRCLES],
-    boxes: [Rectangle; MAX_CIRCLES],
-    count: usize,
-    padding: f64,
-) -> [Circle; MAX_CIRCLES]
-    requires { ⌜ (n ≤ maxCircles) × (count ≤ maxCircles) × Numbered n numbers ⌝ }
-    ensures { λ r. ⌜ ((rects : List Rectangle) → length rects ≡ count → boxes ≡ filled circleCap noRectangle rects → r ≡ onFirst n (packClusters golden numbers rects padding) circles) ⌝ }
+// The boxes of the clusters, and the padding between them.
+fn boxed(
+    xs: &[f64],
+    ys: &[f64],
+    radii: &[f64],
+    numbers: &[u8],
+    factor: f64,
+    across: &mut [f64],
+    widths: &mut [f64],
+    up: &mut [f64],
+    heights: &mut [f64],
+) -> f64
+    requires { ⌜ (length (now ys) ≡ length (now xs)) × (length (now radii) ≡ length (now xs)) × (length (now numbers) ≡ length (now xs)) × (length (now widths) ≡ length (now across)) × (length (now up) ≡ length (now across)) × (length (now heights) ≡ length (now across)) × Numbered (length (now across)) (now numbers) ⌝ }
+    ensures lists { λ _. ⌜ BoxLists (boxes (length (now (across .entry))) (now (numbers .entry)) (circlesOf (now (xs .entry)) (now (ys .entry)) (now (radii .entry)))) (now (across .exit)) (now (widths .exit)) (now (up .exit)) (now (heights .exit)) ⌝ }
+    ensures padding { λ r. ⌜ r ≡ padding (boxes (length (now (across .entry))) (now (numbers .entry)) (circlesOf (now (xs .entry)) (now (ys .entry)) (now (radii .entry)))) factor ⌝ }
 {
-    if count < 2 {
-        return circles;
-    }
-    let packed = raw_pack(boxes, count, padding);
-    all_shifted(circles, n, numbers, boxes, packed)
-}
-
-fn all_shifted(
-    circles: [Circle; MAX_CIRCLES],
-    n: usize,
-    numbers: [u8; MAX_CIRCLES],
-    old: [Rectangle; MAX_CIRCLES],
-    new: [Rectangle; MAX_CIRCLES],
-) -> [Circle; MAX_CIRCLES]
-    requires { ⌜ (n ≤ maxCircles) × Numbered n numbers ⌝ }
-    ensures { λ r. ⌜ r ≡ onFirst n (shifted numbers old new) circles ⌝ }
-{
-    let mut moved = circles;
-    let mut i: usize = 0;
-    while i < n {
-        let a = numbers[i] as usize;
-        moved[i] = shift(old[a], new[a], moved[i]);
-        i += 1;
-    }
-    moved
-}
-
-// A circle moves as the centre of its cluster's box does.
-fn shift(old: Rectangle, new: Rectangle, c: Circle) -> Circle
-    ensures { λ r. ⌜ r ≡ shift old new c ⌝ }
-{
-    translated(c, new.center.x - old.center.x, new.center.y - old.center.y)
-}
-
-// ---- the container call
-
-// Moves the container to the origin, the circles along, and then the circles to its middle, unless they reach past its edge.
-// Only the first n circles are looked at and moved.
-pub fn normalize_layout_with_container_by_value(
-    circles: [Circle; MAX_CIRCLES],
-    n: usize,
-    container: Rectangle,
-) -> InContainer
-    ensures { λ r. ⌜ inContainer r ≡ firstContained n circles container ⌝ }
-{
-    let refusal = container_refusal(circles, n, container);
-    if refusal != 0 {
-        return InContainer {
-            refusal,
-            container,
-            circles,
-        };
-    }
-    settled(circles, n, container)
-}
-
-// The same of a lent run. More circles than there is room for are refused, and stay as they are.
-pub fn normalize_layout_with_container(circles: &mut [Circle], container: Rectangle) -> Placed
-    ensures { λ r. ⌜ (r ≡ placedOf (contained (now (circles .entry)) container)) × (now (circles .exit) ≡ contained (now (circles .entry)) container .circles) ⌝ }
-{
-    let l = load(circles);
-    let d = normalize_loaded(l, container);
-    store(circles, d.layout);
-    d.answer
-}
-
-fn normalize_loaded(l: Loaded, container: Rectangle) -> PlacedCircles
-    ensures { λ r. ⌜ r ≡ placedLoaded l container ⌝ }
-{
-    let circles = l.circles;
-    let n = l.n;
-    let r = normalize_layout_with_container_by_value(circles, n, container);
-    let placed = r.container;
-    let moved = r.circles;
-    PlacedCircles {
-        answer: Placed {
-            refusal: r.refusal,
-            container: placed,
-        },
-        layout: Loaded { circles: moved, n },
-    }
-}
-
-// The container's centre is checked with those of the circles, before any radius, and its sides last.
-fn container_refusal(circles: [Circle; MAX_CIRCLES], n: usize, container: Rectangle) -> u8
-    ensures { λ r. ⌜ r ≡ cond (tooMany n) 1 (containerRefusal (take n circles) container) ⌝ }
-{
-    let of_circles = circles_refusal(circles, n);
-    if of_circles == 1 {
-        return 1;
-    }
-    if of_circles == 3 {
-        return of_circles;
-    }
-    if bad_point(container.center) {
-        return 3;
-    }
-    if of_circles != 0 {
-        return of_circles;
-    }
-    if bad_side(container) {
-        return 7;
-    }
-    0
-}
-
-fn settled(circles: [Circle; MAX_CIRCLES], n: usize, container: Rectangle) -> InContainer
-    requires { ⌜ n ≤ maxCircles ⌝ }
-    ensures { λ r. ⌜ inContainer r ≡ withRest n circles (settled container (take n circles)) ⌝ }
-{
-    let x = container.center.x;
-    let y = container.center.y;
-    if is_off(x, y) {
-        let placed = Rectangle::new(Point::new(0.0, 0.0), container.width, container.height);
-        let along = all_translated(circles, n, -x, -y);
-        return InContainer {
-            refusal: 0,
-            container: placed,
-            circles: center_shapes_in_container(along, n, placed),
-        };
-    }
-    InContainer {
-        refusal: 0,
-        container,
-        circles: center_shapes_in_container(circles, n, container),
-    }
-}
-
-// Circles that stand in the middle already stay where they are, to the last bit.
-fn center_shapes_in_container(
-    circles: [Circle; MAX_CIRCLES],
-    n: usize,
-    container: Rectangle,
-) -> [Circle; MAX_CIRCLES]
-    requires { ⌜ n ≤ maxCircles ⌝ }
-    ensures { λ r. ⌜ r ≡ onFirst n (centredIn container) circles ⌝ }
-{
-    if n == 0 {
-        return circles;
-    }
-    let b = box_of(circles, n);
-    if reaches_past(container, b) {
-        return circles;
-    }
-    let dx = middle(b.x_min, b.x_max);
-    let dy = middle(b.y_min, b.y_max);
-    if is_near(dx, dy) {
-        return circles;
-    }
-    all_translated(circles, n, -dx, -dy)
-}
-
-// Whether a point is too far from the origin to count as there, and whether it is near enough. A NaN is neither.
-fn is_off(x: f64, y: f64) -> bool
-    ensures { λ r. ⌜ r ≡ off x y ⌝ }
-{
-    1e-12 < absolute(x) || 1e-12 < absolute(y)
-}
-
-fn is_near(x: f64, y: f64) -> bool
-    ensures { λ r. ⌜ r ≡ near x y ⌝ }
-{
-    absolute(x) < 1e-12 && absolute(y) < 1e-12
-}
-
-// Whether a box reaches past a container that stands at the origin, by more than rounding explains.
-fn reaches_past(container: Rectangle, b: Bounds) -> bool
-    ensures { λ r. ⌜ r ≡ reachesPast container b ⌝ }
-{
-    let half_width = container.width / 2.0;
-    let half_height = container.height / 2.0;
-    let tolerance = 1e-9 * maximum(maximum(half_width, half_height), 1.0);
-    if b.x_min < -half_width - tolerance {
-        return true;
-    }
-    if half_width + tolerance < b.x_max {
-        return true;
-    }
-    if b.y_min < -half_height - tolerance {
-        return true;
-    }
-    half_height + tolerance < b.y_max
-}
-
-// ---- centring
-
-// Moves the middle of the box of the first n circles to the origin.
-fn center_layout(circles: [Circle; MAX_CIRCLES], n: usize) -> [Circle; MAX_CIRCLES]
-    requires { ⌜ n ≤ maxCircles ⌝ }
-    ensures { λ r. ⌜ r ≡ onFirst n centredLayout circles ⌝ }
-{
-    let b = box_of(circles, n);
-    all_translated(
-        circles,
-        n,
-        -middle(b.x_min, b.x_max),
-        -middle(b.y_min, b.y_max),
-    )
-}
-
-fn all_translated(
-    circles: [Circle; MAX_CIRCLES],
-    n: usize,
-    dx: f64,
-    dy: f64,
-) -> [Circle; MAX_CIRCLES]
-    requires { ⌜ n ≤ maxCircles ⌝ }
-    ensures { λ r. ⌜ r ≡ onFirst n (allTranslated dx dy) circles ⌝ }
-{
-    let mut moved = circles;
-    let mut i: usize = 0;
-    while i < n {
-        moved[i] = translated(moved[i], dx, dy);
-        i += 1;
-    }
-    moved
-}
-
-// ---- boxes
-
-// The box of the first n circles.
-fn box_of(circles: [Circle; MAX_CIRCLES], n: usize) -> Bounds
-    requires { ⌜ n ≤ maxCircles ⌝ }
-    ensures { λ r. ⌜ r ≡ boxAll always (take n circles) ⌝ }
-{
-    let mut b = nothing();
-    let mut i: usize = 0;
-    while i < n {
-        let c = circles[i];
-        b = b.union(c.bounds());
-        i += 1;
-    }
-    b
+    cluster_boxes(xs, ys, radii, numbers, across, widths, up, heights);
+    padding_of(widths, heights, factor)
 }

@@ -70,10 +70,10 @@ module _ {h i o s n lines B R D t : ℕ} (b : Budget h i o s n lines B R D t) {c
   twice = omega (arith, b .lengths)
 
   -- ---- sides and padding
-  width-is-upto : (a : ℕ) → a < count → Upto (pow2 (60 + s)) (rectangle rects a .width)
+  pub width-is-upto : (a : ℕ) → a < count → Upto (pow2 (60 + s)) (rectangle rects a .width)
   width-is-upto = width-upto h (b .th) B R D (pow2 (60 + s)) twice (b .sides) C
 
-  height-is-upto : (a : ℕ) → a < count → Upto (pow2 (60 + s)) (rectangle rects a .height)
+  pub height-is-upto : (a : ℕ) → a < count → Upto (pow2 (60 + s)) (rectangle rects a .height)
   height-is-upto = height-upto h (b .th) B R D (pow2 (60 + s)) twice (b .sides) C
 
   area-is-upto : (a : ℕ) → a < count → Upto (pow2 (60 + (s + s))) (rectangleArea (rectangle rects a))

@@ -67,7 +67,7 @@ module _ (cs : List Circle) (rs : List Region) (factor : Float) (sound : (i : �
   below : {i : ℕ} → i < length turned → i < n
   below h = rw turned-length at h
 
-  handed-over : Gauged64 g turned
+  pub handed-over : Gauged64 g turned
   handed-over = record {
     numbering = rw turned-length numbering;
     few = rw turned-length few;

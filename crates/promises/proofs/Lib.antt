@@ -65,3 +65,4 @@ pub mod Arrangement
 pub mod InRange
 pub mod SixtyFour
 pub mod Demand3
+pub mod PackingAccepts

@@ -14,18 +14,18 @@ use Rattle.scope.specs.Numbers.{golden}
 use Rattle.scope.specs.Limits.{circleCap, radiusOk, factorOk}
 use Rattle.scope.specs.Links.{circle}
 use Rattle.scope.specs.Groups.{Clusters}
-use Rattle.scope.specs.Packing.{columns}
+use Rattle.scope.specs.Packing.{columns, rectangle}
 use Rattle.scope.specs.Padding.{boxes, padding}
 use Rattle.scope.specs.Promises.{units}
 use Rattle.promises.specs.Demand3.{gapBound}
 use Rattle.promises.proofs.Numbering.{Numbering, numberIn}
-use Rattle.promises.proofs.Bounded.{Bounded}
+use Rattle.promises.proofs.Bounded.{Bounded, Upto}
 use Rattle.promises.proofs.InRange.{radius-bounded, radius-at-least, radius-lifted, factor-bounded, factor-not-negative}
 use Rattle.promises.proofs.Columns.{GridFits, grid-wider, golden-grid-fits}
 use Rattle.promises.proofs.Proportions.{Proportion, grid-fits-64}
 use Rattle.promises.proofs.ClusterBoxes.{Clustered}
 use Rattle.promises.proofs.Returned.{Arranged, returned}
-use Rattle.promises.proofs.Arrangement.{Budget, arranged, padding-bounded, padding-not-negative}
+use Rattle.promises.proofs.Arrangement.{Budget, arranged, width-is-upto, height-is-upto, padding-bounded, padding-not-negative}
 
 -- how far apart the centres of one cluster are on an axis, in units: (23/4) 2^20 and 2^-16
 abbrev pub spread64 : ℕ
@@ -81,13 +81,20 @@ module _ {g : Clusters} {cs : List Circle} (G : Gauged64 g cs) where
       above : (r : Z) → nat (pow2 40) ≼ r → nat (pow2 35) ≺ r
       above r h = omega (arith, apart)
 
-  few-clusters : g .count ≤ 64
+  pub few-clusters : g .count ≤ 64
   unfolding circleCap
   few-clusters = omega (arith, G .few, G .numbering .few)
 
   module _ (factor : Float) (fit : T (fits binary64 factor)) (ok : T (factorOk factor)) where
     abbrev pad : Float
     pad = padding (boxes (g .count) (g .numbers) cs) factor
+
+    -- sides are at most 2^23, padding at most 2^26: the packing's own ranges
+    pub width-64 : (a : ℕ) → a < g .count → Upto (pow2 83) (rectangle (boxes (g .count) (g .numbers) cs) a .width)
+    width-64 = width-is-upto budget64 clustered few-clusters factor (factor-bounded factor fit ok)
+
+    pub height-64 : (a : ℕ) → a < g .count → Upto (pow2 83) (rectangle (boxes (g .count) (g .numbers) cs) a .height)
+    height-64 = height-is-upto budget64 clustered few-clusters factor (factor-bounded factor fit ok)
 
     pub padding-64 : Bounded (pow2 86) pad
     padding-64 = padding-bounded budget64 clustered few-clusters factor (factor-bounded factor fit ok)

@@ -1,0 +1,14 @@
+-- `only` meets its contract: a power of two below 2^64 is not cut.
+use borrow.Author.Needs.{needs}
+use Rattle.layout.proofs.MaskShifts.{power-shifted}
+use Rattle.layout.proofs.offset.only.Statement.{statement}
+use Rattle.layout.proofs.offset.only.Tie as tie
+
+shl-result : tie.Need-shl-result
+shl-result c = search needs
+
+returns : tie.Need-returns
+returns c = power-shifted _ (c .pre)
+
+pub only-spec : {M : Type 1} → statement M
+only-spec = tie.close (tie.spec shl-result returns)

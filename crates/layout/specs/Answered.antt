@@ -1,0 +1,21 @@
+-- What a core answers for the first n numbers of its arrays, by a definition of the answer for a run: a refusal's number or 0, and the circles after an acceptance.
+use Prim.Native.Nat.{ℕ}
+use mathlib.Core.Path.{_≡_}
+use mathlib.Core.Bool.{cond}
+use mathlib.Core.List.{List}
+use lib.Ieee.{Float}
+use lib.ListN.{take}
+use Rattle.shapes.specs.declared.geometry.shapes.circle.Circle.{Circle}
+use Rattle.scope.specs.Refusals.{tooMany}
+use Rattle.intake.specs.Columns.{circlesOf}
+
+-- the circles that the first n numbers show
+abbrev pub firstShown : ℕ → List Float → List Float → List Float → List Circle
+firstShown n xs ys rs = circlesOf (take n xs) (take n ys) (take n rs)
+
+-- an answer of the first n, unless there are too many
+abbrev pub unlessMany : {X : Type 0} → ℕ → X → X → X
+unlessMany n bad good = cond (tooMany n) bad good
+
+unfoldable pub Answered : (List Circle → ℕ) → (List Circle → List Circle) → List Float → List Float → List Float → ℕ → ℕ → List Float → List Float → Type 0
+Answered number after xs ys rs n refusal xs′ ys′ = (refusal ≡ unlessMany n 1 (number (firstShown n xs ys rs))) × (refusal ≡ 0 → firstShown n xs′ ys′ rs ≡ after (firstShown n xs ys rs))

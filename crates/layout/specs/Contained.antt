@@ -1,0 +1,28 @@
+-- What the container call's core answers for circles whose numbers stand in the front of three arrays.
+use Prim.Native.Nat.{ℕ}
+use mathlib.Core.Path.{_≡_}
+use mathlib.Core.Bool.{cond}
+use mathlib.Core.List.{List}
+use lib.Ieee.{Float}
+use Rattle.shapes.specs.declared.geometry.shapes.rectangle.Rectangle.{Rectangle}
+use Rattle.scope.specs.Refusals.{tooMany}
+use Rattle.scope.specs.Container.{Contained, contained, settled}
+use Rattle.intake.specs.CauseWords.{front}
+use Rattle.layout.specs.Answers.{placedOf}
+use Rattle.layout.specs.Settling.{settledAs}
+use Rattle.layout.specs.declared.container.Placed.{Placed}
+
+-- the call on the first n circles of three lists; with too many, none is looked at
+unfoldable pub frontContained : ℕ → List Float → List Float → List Float → Rectangle → Contained
+frontContained n xs ys rs container =
+    let many : Contained = record { refusal = 1; container = container; circles = front n xs ys rs } in
+    cond (tooMany n) many (contained (front n xs ys rs) container)
+
+-- the core's answer, and after an acceptance the circles that its lists show
+pub record SettledAt (xs ys rs : List Float) (n : ℕ) (container : Rectangle) (r : Placed) (xs′ ys′ : List Float) : Type 0 where
+  pub placed : r ≡ placedOf (frontContained n xs ys rs container)
+  pub circles : r .refusal ≡ 0 → front n xs′ ys′ rs ≡ frontContained n xs ys rs container .circles
+
+-- the same of accepted circles
+abbrev pub SettledFront : List Float → List Float → List Float → ℕ → Rectangle → Rectangle → List Float → List Float → Type 0
+SettledFront xs ys rs n container r xs′ ys′ = settledAs r (front n xs′ ys′ rs) ≡ settled container (front n xs ys rs)

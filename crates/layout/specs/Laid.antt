@@ -1,0 +1,39 @@
+-- What the layout's core answers for circles whose numbers stand in the front of three arrays, and the steps that it goes through.
+use Prim.Native.Nat.{ℕ}
+use mathlib.Core.Path.{_≡_}
+use mathlib.Core.Bool.{cond}
+use mathlib.Core.List.{List, []}
+use lib.Ieee.{Float}
+use Rattle.shapes.specs.declared.geometry.shapes.circle.Circle.{Circle}
+use Rattle.scope.specs.Numbers.{golden}
+use Rattle.scope.specs.Links.{regions}
+use Rattle.scope.specs.Refusals.{tooMany, packRefusal, layoutRefusal}
+use Rattle.scope.specs.Padding.{boxes, padding, packClusters}
+use Rattle.scope.specs.Centring.{centredLayout}
+use Rattle.scope.specs.Layout.{Layout, layout, refusedLayout}
+use Rattle.scope.specs.Promises.{Promises}
+use Rattle.promises.specs.Demand3.{bound}
+use Rattle.intake.specs.CauseWords.{front}
+use Rattle.layout.specs.Answers.{resultOf}
+use Rattle.layout.specs.declared.normalize.Result.{Result}
+
+-- the boxes and the padding of these clusters are within the packing's ranges
+abbrev pub Packable : ℕ → List ℕ → List Circle → Float → Type 0
+Packable count numbers cs factor = packRefusal (boxes count numbers cs) (padding (boxes count numbers cs) factor) ≡ 0
+
+-- the clusters packed, and then the whole centred
+abbrev pub packedClusters : ℕ → List ℕ → Float → List Circle → List Circle
+packedClusters count numbers factor cs = packClusters golden numbers (boxes count numbers cs) (padding (boxes count numbers cs) factor) cs
+
+abbrev pub settledClusters : ℕ → List ℕ → Float → List Circle → List Circle
+settledClusters count numbers factor cs = centredLayout (packedClusters count numbers factor cs)
+
+-- the layout of the first n circles of three lists; with too many, none is looked at
+unfoldable pub frontLayout : ℕ → List Float → List Float → List Float → Float → List ℕ → List Float → Layout
+frontLayout n xs ys rs factor masks areas = cond (tooMany n) (refusedLayout 1 []) (layout (front n xs ys rs) factor masks areas)
+
+-- the core's answer: the result, and after an acceptance the circles that its lists show, which keep the promises
+pub record Laid (xs ys rs : List Float) (n : ℕ) (factor : Float) (masks : List ℕ) (areas : List Float) (r : Result) (xs′ ys′ : List Float) : Type 0 where
+  pub result : resultOf r ≡ frontLayout n xs ys rs factor masks areas .result
+  pub circles : r .refusal ≡ 0 → front n xs′ ys′ rs ≡ frontLayout n xs ys rs factor masks areas .circles
+  pub promises : r .refusal ≡ 0 → Promises bound (front n xs ys rs) (regions masks areas) (resultOf r) (front n xs′ ys′ rs)

@@ -1,0 +1,69 @@
+// A layout in its container: the container to the origin, the circles to its middle.
+ghost use mathlib.Core.Path.{_≡_};
+ghost use Prim.Native.Nat.{_≤_};
+ghost use lib.ListN.{length, take};
+ghost use Rattle.scope.specs.Container.{contained};
+ghost use Rattle.intake.specs.Limits.{maxCircles};
+ghost use Rattle.intake.specs.Columns.{Lifted};
+ghost use Rattle.intake.specs.CauseWords.{front};
+ghost use Rattle.layout.specs.Answers.{inContainer, placedOf};
+ghost use Rattle.layout.specs.FirstLayout.{firstContained};
+ghost use Rattle.layout.specs.Contained.{SettledAt, SettledFront};
+use crate::settling::settled;
+use intake::causes::number_of;
+use intake::causes::of_circles;
+use intake::causes::of_container;
+use intake::limits::MAX_CIRCLES;
+
+use shapes::geometry::primitives::point::Point;
+use shapes::geometry::shapes::circle::Circle;
+use shapes::geometry::shapes::rectangle::Rectangle;
+
+// A refusal's number or 0, and the container and the circles: as they were given where the call is refused.
+#[repr(C)]
+pub struct InContainer {
+    pub refusal: u8,
+    pub container: Rectangle,
+    pub circles: [Circle; MAX_CIRCLES],
+}
+
+// The same without the circles, for a lent run: they are rewritten there.
+#[repr(C)]
+pub struct Placed {
+    pub refusal: u8,
+    pub container: Rectangle,
+}
+
+// Of circles whose numbers stand in the front of three arrays.
+fn settled_at(
+    xs: &mut [f64; MAX_CIRCLES],
+    ys: &mut [f64; MAX_CIRCLES],
+    radii: &[f64; MAX_CIRCLES],
+    n: usize,
+    container: Rectangle,
+) -> Placed
+    ensures { λ r. ⌜ SettledAt (now (xs .entry)) (now (ys .entry)) (now (radii .entry)) n container r (now (xs .exit)) (now (ys .exit)) ⌝ }
+{
+    let refusal = number_of(of_circles(xs, ys, radii, n) | of_container(container));
+    if refusal != 0 {
+        return Placed { refusal, container };
+    }
+    let placed = in_front(xs, ys, radii, n, container);
+    Placed {
+        refusal: 0,
+        container: placed,
+    }
+}
+
+fn in_front(
+    xs: &mut [f64],
+    ys: &mut [f64],
+    radii: &[f64],
+    n: usize,
+    container: Rectangle,
+) -> Rectangle
+    requires { ⌜ (n ≤ maxCircles) × (length (now xs) ≡ maxCircles) × (length (now ys) ≡ maxCircles) × (length (now radii) ≡ maxCircles) × Lifted (take n (now radii)) ⌝ }
+    ensures { λ r. ⌜ SettledFront (now (xs .entry)) (now (ys .entry)) (now (radii .entry)) n container r (now (xs .exit)) (now (ys .exit)) ⌝ }
+{
+    settled(&mut xs[0..n], &mut ys[0..n], &radii[0..n], container)
+}
