@@ -77,11 +77,11 @@ module _ {M : Type 1} (𝓤 : URA M) (H : Heap 𝓤) (A : Atoms 𝓤) (at-mem : 
   Core = tripleOf 𝓤 H A core.signature (core.spec 𝓤 H A at-mem run)
 
 module _ {M : Type 1} (𝓤 : URA M) (H : Heap 𝓤) (A : Atoms 𝓤) (W : Given 𝓤 H A) (at-mem : Memory → SProp 𝓤) (run : Routine → Fun 𝓤) (κ : Lft) (q : Share) (x : RefT (List Circle)) (gn : Room T.the-row (length (x .now))) where
-  abbrev ys : List Circle
-  ys = x .now
+  abbrev cs : List Circle
+  cs = x .now
 
   abbrev n : ℕ
-  n = length ys
+  n = length cs
 
   abbrev s : Val
   s = sliceVal (x .ptr) n
@@ -104,10 +104,10 @@ module _ {M : Type 1} (𝓤 : URA M) (H : Heap 𝓤) (A : Atoms 𝓤) (W : Given
 
   -- what the core says of its answer, and what follows for the run
   abbrev Solved : Clusters → Type 0
-  Solved r = Clustered (splitOf xsOf ys zeros) (splitOf ysOf ys zeros) (splitOf radiiOf ys zeros) n r
+  Solved r = Clustered (splitOf xsOf cs zeros) (splitOf ysOf cs zeros) (splitOf radiiOf cs zeros) n r
 
-  answers : (r : Clusters) → Solved r → Groups ys r
-  answers r e = clustered-groups ys r e
+  answers : (r : Clusters) → Solved r → Groups cs r
+  answers r e = clustered-groups cs r e
 
   -- what the core asks, of the arrays at their places, each lent for a lifetime under a name
   module _ (b₀ b₁ b₂ : ℕ) (ν₀ ν₁ ν₂ : ℕ) (δ₀ δ₁ δ₂ : GName) where
@@ -115,7 +115,7 @@ module _ {M : Type 1} (𝓤 : URA M) (H : Heap 𝓤) (A : Atoms 𝓤) (W : Given
     core-lfts = (ν₀ ∷ [], (ν₁ ∷ [], (ν₂ ∷ [], tt)))
 
     abbrev core-args : Args core.signature core-lfts
-    core-args = (refTo b₀ 0 δ₀ (splitOf xsOf ys zeros), (refTo b₁ 0 δ₁ (splitOf ysOf ys zeros), (refTo b₂ 0 δ₂ (splitOf radiiOf ys zeros), (n, tt))))
+    core-args = (refTo b₀ 0 δ₀ (splitOf xsOf cs zeros), (refTo b₁ 0 δ₁ (splitOf ysOf cs zeros), (refTo b₂ 0 δ₂ (splitOf radiiOf cs zeros), (n, tt))))
 
     abbrev core-toks : Item 𝓤
     core-toks = ‵ (flft (ν₀ ∷ []) fullShare) ⊛ ‵ (flft (ν₁ ∷ []) fullShare) ⊛ ‵ (flft (ν₂ ∷ []) fullShare) ⊛ ‵ ftrue
@@ -124,12 +124,12 @@ module _ {M : Type 1} (𝓤 : URA M) (H : Heap 𝓤) (A : Atoms 𝓤) (W : Given
     to-core = ((core-lfts, (fullShare, (fullShare, (fullShare, tt))), tt, core-args, (vptr b₀ 0 ∷ [], (vptr b₁ 0 ∷ [], (vptr b₂ 0 ∷ [], (vint w64 n ∷ [], tt))))), tt)
 
     abbrev Handed : List (Item 𝓤)
-    Handed = ‵ (ShrRef (named 0) (ν₀ ∷ []) F64s .own (refTo b₀ 0 δ₀ (splitOf xsOf ys zeros)) (vptr b₀ 0 ∷ [])) ∷ ‵ (flft (ν₀ ∷ []) fullShare) ∷ ‵ (ShrRef (named 1) (ν₁ ∷ []) F64s .own (refTo b₁ 0 δ₁ (splitOf ysOf ys zeros)) (vptr b₁ 0 ∷ [])) ∷ ‵ (flft (ν₁ ∷ []) fullShare) ∷ ‵ (ShrRef (named 2) (ν₂ ∷ []) F64s .own (refTo b₂ 0 δ₂ (splitOf radiiOf ys zeros)) (vptr b₂ 0 ∷ [])) ∷ ‵ (flft (ν₂ ∷ []) fullShare) ∷ ‵ Rest ∷ []
+    Handed = ‵ (ShrRef (named 0) (ν₀ ∷ []) F64s .own (refTo b₀ 0 δ₀ (splitOf xsOf cs zeros)) (vptr b₀ 0 ∷ [])) ∷ ‵ (flft (ν₀ ∷ []) fullShare) ∷ ‵ (ShrRef (named 1) (ν₁ ∷ []) F64s .own (refTo b₁ 0 δ₁ (splitOf ysOf cs zeros)) (vptr b₁ 0 ∷ [])) ∷ ‵ (flft (ν₁ ∷ []) fullShare) ∷ ‵ (ShrRef (named 2) (ν₂ ∷ []) F64s .own (refTo b₂ 0 δ₂ (splitOf radiiOf cs zeros)) (vptr b₂ 0 ∷ [])) ∷ ‵ (flft (ν₂ ∷ []) fullShare) ∷ ‵ Rest ∷ []
 
     goes-core : ent 𝓤 (⋆ 𝓤 H A Handed) (Core 𝓤 H A at-mem run .pre to-core)
     goes-core = qed W Handed ∵ owned ! usize (Is usize) (uint-makes 𝓤 H A W w64) n _ (refl, gn .0) $ move ! (0 ∷ 7 ∷ []) $ fjoin ! $ move ! (5 ∷ 0 ∷ []) $ fjoin ! $ move ! (3 ∷ 0 ∷ []) $ fjoin ! $ move ! (1 ∷ 0 ∷ []) $ fjoin ! $ nothing ! $ move ! (4 ∷ 0 ∷ []) $ join ! $ move ! (3 ∷ 0 ∷ []) $ join ! $ move ! (2 ∷ 0 ∷ []) $ join ! $ join ! $ frame ! $ done !
 
-  exits : (r : Clusters) (v : Val) → Groups ys r → ent 𝓤 (⋆ 𝓤 H A (‵ (flft κ q) ∷ ‵ Lent ∷ ‵ Rest ∷ ‵ (R.the-row .own r (v ∷ [])) ∷ [])) (Post v)
+  exits : (r : Clusters) (v : Val) → Groups cs r → ent 𝓤 (⋆ 𝓤 H A (‵ (flft κ q) ∷ ‵ Lent ∷ ‵ Rest ∷ ‵ (R.the-row .own r (v ∷ [])) ∷ [])) (Post v)
   exits r v e =
       qed W (‵ (flft κ q) ∷ ‵ Lent ∷ ‵ Rest ∷ ‵ (R.the-row .own r (v ∷ [])) ∷ []) ∵
       suffices ! _ (ends-at 𝓤 H A thin.ended stayed (thin.clauses 𝓤 H A at-mem run) W (((κ, tt), (q, tt), tt, (x, tt), at), tt) v r (tt, tt) (tt, tt)) $ says ! e $ nothing ! $ move ! (1 ∷ 0 ∷ []) $ join ! $ frame ! $ fjoin ! $ frame ! $ done !
@@ -154,9 +154,9 @@ module _ {M : Type 1} (𝓤 : URA M) (H : Heap 𝓤) (A : Atoms 𝓤) (W : Given
         land ! (from ! (stop !)) (init ! 18 refl (tt, record { fits = small })) $
         assigns ! (addr ! (from ! (stop !))) (from ! (stop !)) (init ! 10 refl (tt, tt)) $ assigns ! (addr ! (from ! (stop !))) (from ! (stop !)) (init ! 8 refl (tt, tt)) $ assigns ! (addr ! (from ! (stop !))) (from ! (stop !)) (init ! 6 refl (tt, tt)) $
         -- the core: the arrays are lent to be read
-        move ! (5 ∷ []) $ use1 W (‵ Rest ⊛ ‵ Rest) twice-rest $ split ! $ move ! (3 ∷ []) $ lent-to-read ! tt F64s (named 0) (splitOf xsOf ys zeros) l₂ 0 (λ ν₀ δ₀.
-        move ! (6 ∷ []) $ lent-to-read ! tt F64s (named 1) (splitOf ysOf ys zeros) l₃ 0 (λ ν₁ δ₁.
-        move ! (9 ∷ []) $ lent-to-read ! tt F64s (named 2) (splitOf radiiOf ys zeros) l₄ 0 (λ ν₂ δ₂.
+        move ! (5 ∷ []) $ use1 W (‵ Rest ⊛ ‵ Rest) twice-rest $ split ! $ move ! (3 ∷ []) $ lent-to-read ! tt F64s (named 0) (splitOf xsOf cs zeros) l₂ 0 (λ ν₀ δ₀.
+        move ! (6 ∷ []) $ lent-to-read ! tt F64s (named 1) (splitOf ysOf cs zeros) l₃ 0 (λ ν₁ δ₁.
+        move ! (9 ∷ []) $ lent-to-read ! tt F64s (named 2) (splitOf radiiOf cs zeros) l₄ 0 (λ ν₂ δ₂.
         move ! (6 ∷ 7 ∷ 3 ∷ 4 ∷ 0 ∷ 1 ∷ 10 ∷ []) $ group ! 7 $ use1 W (raw (Core 𝓤 H A at-mem run .pre (to-core l₂ l₃ l₄ ν₀ ν₁ ν₂ δ₀ δ₁ δ₂))) (goes-core l₂ l₃ l₄ ν₀ ν₁ ν₂ δ₀ δ₁ δ₂) $
         calls-at ! (fmOf 𝓤 H (W .laws) 𝓣) (Core 𝓤 H A at-mem run) known-core (to-core l₂ l₃ l₄ ν₀ ν₁ ν₂ δ₀ δ₁ δ₂) (and-then ! (load ! (from ! (stop !)) (look ! 11 refl)) (and-then ! (load ! (from ! (stop !)) (look ! 9 refl)) (and-then ! (load ! (from ! (stop !)) (look ! 7 refl)) (and-then ! (load ! (from ! (stop !)) (look ! 21 refl)) (no-more !))))) (λ v.
         use1 W (later (some (λ (r : Clusters). (core-toks l₂ l₃ l₄ ν₀ ν₁ ν₂ δ₀ δ₁ δ₂ ⊛ ‵ (R.the-row .own r (v ∷ []))) ⊛ raw (ensured 𝓤 H A core.ended (core.clauses 𝓤 H A at-mem run) (core-lfts l₂ l₃ l₄ ν₀ ν₁ ν₂ δ₀ δ₁ δ₂) (core-args l₂ l₃ l₄ ν₀ ν₁ ν₂ δ₀ δ₁ δ₂) tt r)))) (id⊢ 𝓤 _) $ await ! tt $ pick ! (λ r.
@@ -165,11 +165,11 @@ module _ {M : Type 1} (𝓤 : URA M) (H : Heap 𝓤) (A : Atoms 𝓤) (W : Given
         split ! $ move ! (1 ∷ []) $ peeks ! R.the-row (Is R.the-row) (shows 𝓤 H A R.the-row) r (v ∷ []) (λ is.
         land ! (from ! (stop !)) (init ! 29 refl (LL.lawful R.the-type R′.the-laws 𝓤 H A W .typed r _ is .0)) $
         move ! (1 ∷ []) $ split ! $ move ! (1 ∷ []) $ split ! $ move ! (1 ∷ []) $ split ! $ move ! (1 ∷ []) $ drop ! $
-        move ! (2 ∷ 6 ∷ []) $ read-back ! tt F64s (splitOf xsOf ys zeros) l₂ 0 $ move ! (2 ∷ 5 ∷ []) $ read-back ! tt F64s (splitOf ysOf ys zeros) l₃ 0 $ move ! (2 ∷ 4 ∷ []) $ read-back ! tt F64s (splitOf radiiOf ys zeros) l₄ 0 $
+        move ! (2 ∷ 6 ∷ []) $ read-back ! tt F64s (splitOf xsOf cs zeros) l₂ 0 $ move ! (2 ∷ 5 ∷ []) $ read-back ! tt F64s (splitOf ysOf cs zeros) l₃ 0 $ move ! (2 ∷ 4 ∷ []) $ read-back ! tt F64s (splitOf radiiOf cs zeros) l₄ 0 $
         returns ! (look ! 28 refl) $
-        move ! (2 ∷ []) $ use1 W (‵ (froom (numbersTy maxCircles) l₂ 0)) (array-room 𝓤 H A W maxCircles (splitOf xsOf ys zeros) l₂ 0) $
-        move ! (2 ∷ []) $ use1 W (‵ (froom (numbersTy maxCircles) l₃ 0)) (array-room 𝓤 H A W maxCircles (splitOf ysOf ys zeros) l₃ 0) $
-        move ! (2 ∷ []) $ use1 W (‵ (froom (numbersTy maxCircles) l₄ 0)) (array-room 𝓤 H A W maxCircles (splitOf radiiOf ys zeros) l₄ 0) $
+        move ! (2 ∷ []) $ use1 W (‵ (froom (numbersTy maxCircles) l₂ 0)) (array-room 𝓤 H A W maxCircles (splitOf xsOf cs zeros) l₂ 0) $
+        move ! (2 ∷ []) $ use1 W (‵ (froom (numbersTy maxCircles) l₃ 0)) (array-room 𝓤 H A W maxCircles (splitOf ysOf cs zeros) l₃ 0) $
+        move ! (2 ∷ []) $ use1 W (‵ (froom (numbersTy maxCircles) l₄ 0)) (array-room 𝓤 H A W maxCircles (splitOf radiiOf cs zeros) l₄ 0) $
         forget ! 28 refl $ forget ! 26 refl $ forget ! 21 refl $ forget ! 19 refl $ forget ! 17 refl $ forget ! 15 refl $ forget ! 13 refl $ forget ! 11 refl $ forget ! 9 refl $ forget ! 7 refl $
         move ! (28 ∷ 29 ∷ []) $ free1 ! $ move ! (26 ∷ 27 ∷ []) $ free1 ! $ move ! (2 ∷ 25 ∷ []) $ free1 ! $ move ! (1 ∷ 23 ∷ []) $ free1 ! $ move ! (0 ∷ 21 ∷ []) $ free1 ! $ move ! (18 ∷ 19 ∷ []) $ free1 ! $ move ! (16 ∷ 17 ∷ []) $ free1 ! $ move ! (14 ∷ 15 ∷ []) $ free1 ! $ move ! (12 ∷ 13 ∷ []) $ free1 ! $ move ! (10 ∷ 11 ∷ []) $ free1 ! $ move ! (8 ∷ 9 ∷ []) $ free1 ! $ move ! (6 ∷ 7 ∷ []) $ free1 ! $ move ! (4 ∷ 5 ∷ []) $ free1 ! $ free0 ! $
         keep ! (2 ∷ 3 ∷ 1 ∷ 0 ∷ []) $

@@ -102,11 +102,11 @@ module _ {M : Type 1} (𝓤 : URA M) (H : Heap 𝓤) (A : Atoms 𝓤) (at-mem : 
   abbrev Core : Contract 𝓤
   Core = tripleOf 𝓤 H A core.signature (core.spec 𝓤 H A at-mem run)
 
-module _ {M : Type 1} (𝓤 : URA M) (H : Heap 𝓤) (A : Atoms 𝓤) (W : Given 𝓤 H A) (at-mem : Memory → SProp 𝓤) (run : Routine → Fun 𝓤) (κ κm κa : Lft) (q qm qa : Share) (b o : ℕ) (γ : GName) (ys : List Circle)
-    (factor : Float) (xm : RefT (List ℕ)) (xa : RefT (List Float)) (gn : Room T.the-row (length ys)) (gf : Is f64 factor (vfloat binary64 factor ∷ []))
+module _ {M : Type 1} (𝓤 : URA M) (H : Heap 𝓤) (A : Atoms 𝓤) (W : Given 𝓤 H A) (at-mem : Memory → SProp 𝓤) (run : Routine → Fun 𝓤) (κ κm κa : Lft) (q qm qa : Share) (b o : ℕ) (γ : GName) (cs : List Circle)
+    (factor : Float) (xm : RefT (List ℕ)) (xa : RefT (List Float)) (gn : Room T.the-row (length cs)) (gf : Is f64 factor (vfloat binary64 factor ∷ []))
     (gm : Room u64 (length (xm .now))) (ga : Room f64 (length (xa .now))) where
   abbrev n : ℕ
-  n = length ys
+  n = length cs
 
   abbrev s : Val
   s = sliceVal (b, o) n
@@ -128,16 +128,16 @@ module _ {M : Type 1} (𝓤 : URA M) (H : Heap 𝓤) (A : Atoms 𝓤) (W : Given
 
   -- what the core says of its answer and of the last lists
   abbrev Solved : Result → List Float → List Float → Type 0
-  Solved r xs′ ys′ = Laid (splitOf xsOf ys zeros) (splitOf ysOf ys zeros) (splitOf radiiOf ys zeros) n factor masks areas r xs′ ys′
+  Solved r xs′ ys′ = Laid (splitOf xsOf cs zeros) (splitOf ysOf cs zeros) (splitOf radiiOf cs zeros) n factor masks areas r xs′ ys′
 
   fits-of : (r : Result) (xs′ ys′ : List Float) → Solved r xs′ ys′ → (writtenOf (r .refusal) n ≤ n) × (writtenOf (r .refusal) n ≤ maxCircles)
-  fits-of r xs′ ys′ e = laid-fits ys factor masks areas r xs′ ys′ e
+  fits-of r xs′ ys′ e = laid-fits cs factor masks areas r xs′ ys′ e
 
-  lays-of : (r : Result) (xs′ ys′ : List Float) (zs : List Circle) → Solved r xs′ ys′ → length xs′ ≡ maxCircles → length ys′ ≡ maxCircles → zs ≡ recentred (writtenOf (r .refusal) n) xs′ ys′ ys → Lays ys factor masks areas r zs
-  lays-of r xs′ ys′ zs e long-x long-y said = subst (Lays ys factor masks areas r) (sym said) (laid-lays ys factor masks areas r xs′ ys′ e long-x long-y)
+  lays-of : (r : Result) (xs′ ys′ : List Float) (zs : List Circle) → Solved r xs′ ys′ → length xs′ ≡ maxCircles → length ys′ ≡ maxCircles → zs ≡ recentred (writtenOf (r .refusal) n) xs′ ys′ cs → Lays cs factor masks areas r zs
+  lays-of r xs′ ys′ zs e long-x long-y said = subst (Lays cs factor masks areas r) (sym said) (laid-lays cs factor masks areas r xs′ ys′ e long-x long-y)
 
   abbrev Post : Val → SProp 𝓤
-  Post = walkOf 𝓤 H A thin.ended stayed (thin.clauses 𝓤 H A at-mem run) .post (((κ, (κm, (κa, tt))), (q, (qm, (qa, tt))), tt, (refTo b o γ ys, (factor, (xm, (xa, tt)))), at), tt)
+  Post = walkOf 𝓤 H A thin.ended stayed (thin.clauses 𝓤 H A at-mem run) .post (((κ, (κm, (κa, tt))), (q, (qm, (qa, tt))), tt, (refTo b o γ cs, (factor, (xm, (xa, tt)))), at), tt)
 
   -- the tokens of the masks and of the areas
   abbrev toks : Item 𝓤
@@ -171,7 +171,7 @@ module _ {M : Type 1} (𝓤 : URA M) (H : Heap 𝓤) (A : Atoms 𝓤) (W : Given
     core-lfts = (ν₀ ∷ [], (ν₁ ∷ [], (ν₂ ∷ [], (κm, (κa, tt)))))
 
     abbrev core-args : Args core.signature core-lfts
-    core-args = (refTo b₀ 0 δ₀ (splitOf xsOf ys zeros), (refTo b₁ 0 δ₁ (splitOf ysOf ys zeros), (refTo b₂ 0 δ₂ (splitOf radiiOf ys zeros), (n, (factor, (xm, (xa, tt)))))))
+    core-args = (refTo b₀ 0 δ₀ (splitOf xsOf cs zeros), (refTo b₁ 0 δ₁ (splitOf ysOf cs zeros), (refTo b₂ 0 δ₂ (splitOf radiiOf cs zeros), (n, (factor, (xm, (xa, tt)))))))
 
     abbrev core-toks : Item 𝓤
     core-toks = ‵ (flft (ν₀ ∷ []) fullShare) ⊛ ‵ (flft (ν₁ ∷ []) fullShare) ⊛ ‵ (flft (ν₂ ∷ []) fullShare) ⊛ toks
@@ -180,17 +180,17 @@ module _ {M : Type 1} (𝓤 : URA M) (H : Heap 𝓤) (A : Atoms 𝓤) (W : Given
     to-core = ((core-lfts, (fullShare, (fullShare, (fullShare, (qm, (qa, tt))))), tt, core-args, (vptr b₀ 0 ∷ [], (vptr b₁ 0 ∷ [], (vptr b₂ 0 ∷ [], (vint w64 n ∷ [], (vfloat binary64 factor ∷ [], (sm ∷ [], (sa ∷ [], tt)))))))), tt)
 
     abbrev Handed : List (Item 𝓤)
-    Handed = ‵ (MutRef (named 0) (ν₀ ∷ []) F64s .own (refTo b₀ 0 δ₀ (splitOf xsOf ys zeros)) (vptr b₀ 0 ∷ [])) ∷ ‵ (flft (ν₀ ∷ []) fullShare) ∷ ‵ (MutRef (named 1) (ν₁ ∷ []) F64s .own (refTo b₁ 0 δ₁ (splitOf ysOf ys zeros)) (vptr b₁ 0 ∷ [])) ∷ ‵ (flft (ν₁ ∷ []) fullShare)
-        ∷ ‵ (ShrRef (named 2) (ν₂ ∷ []) F64s .own (refTo b₂ 0 δ₂ (splitOf radiiOf ys zeros)) (vptr b₂ 0 ∷ [])) ∷ ‵ (flft (ν₂ ∷ []) fullShare) ∷ toks ∷ ‵ Rest ∷ []
+    Handed = ‵ (MutRef (named 0) (ν₀ ∷ []) F64s .own (refTo b₀ 0 δ₀ (splitOf xsOf cs zeros)) (vptr b₀ 0 ∷ [])) ∷ ‵ (flft (ν₀ ∷ []) fullShare) ∷ ‵ (MutRef (named 1) (ν₁ ∷ []) F64s .own (refTo b₁ 0 δ₁ (splitOf ysOf cs zeros)) (vptr b₁ 0 ∷ [])) ∷ ‵ (flft (ν₁ ∷ []) fullShare)
+        ∷ ‵ (ShrRef (named 2) (ν₂ ∷ []) F64s .own (refTo b₂ 0 δ₂ (splitOf radiiOf cs zeros)) (vptr b₂ 0 ∷ [])) ∷ ‵ (flft (ν₂ ∷ []) fullShare) ∷ toks ∷ ‵ Rest ∷ []
 
     goes-core : ent 𝓤 (⋆ 𝓤 H A Handed) (Core 𝓤 H A at-mem run .pre to-core)
     goes-core = qed W Handed ∵ owned ! usize (Is usize) (uint-makes 𝓤 H A W w64) n _ (refl, gn .0) $ move ! (0 ∷ 8 ∷ []) $ fjoin ! $ move ! (5 ∷ 0 ∷ []) $ fjoin ! $ move ! (3 ∷ 0 ∷ []) $ fjoin ! $ move ! (1 ∷ 0 ∷ []) $ fjoin ! $ move ! (3 ∷ 4 ∷ []) $ join ! $ move ! (3 ∷ 0 ∷ []) $ join ! $ move ! (2 ∷ 0 ∷ []) $ join ! $ join ! $ frame ! $ done !
 
-  exits : (zs : List Circle) → length zs ≡ n → (r : Result) → Lays ys factor masks areas r zs → Is R.the-row r (mach r ∷ [])
+  exits : (zs : List Circle) → length zs ≡ n → (r : Result) → Lays cs factor masks areas r zs → Is R.the-row r (mach r ∷ [])
       → ent 𝓤 (⋆ 𝓤 H A (‵ (fobs γ (codedHoleys T.the-row .code (heres T.the-row zs))) ∷ ‵ (fbor κ (Held T.the-row (length zs) b o γ)) ∷ ‵ (flft κ q) ∷ toks ∷ ‵ Rest ∷ [])) (Post (mach r))
   exits zs e r said g =
       qed W (‵ (fobs γ (codedHoleys T.the-row .code (heres T.the-row zs))) ∷ ‵ (fbor κ (Held T.the-row (length zs) b o γ)) ∷ ‵ (flft κ q) ∷ toks ∷ ‵ Rest ∷ []) ∵
-      suffices ! _ (ends-at 𝓤 H A thin.ended stayed (thin.clauses 𝓤 H A at-mem run) W (((κ, (κm, (κa, tt))), (q, (qm, (qa, tt))), tt, (refTo b o γ ys, (factor, (xm, (xa, tt)))), at), tt) (mach r) r (zs, (tt, (tt, (tt, tt)))) (e, (tt, (tt, (tt, tt))))) $
+      suffices ! _ (ends-at 𝓤 H A thin.ended stayed (thin.clauses 𝓤 H A at-mem run) W (((κ, (κm, (κa, tt))), (q, (qm, (qa, tt))), tt, (refTo b o γ cs, (factor, (xm, (xa, tt)))), at), tt) (mach r) r (zs, (tt, (tt, (tt, tt)))) (e, (tt, (tt, (tt, tt))))) $
       says ! said $ move ! (2 ∷ 3 ∷ []) $ join ! $ frame ! $
       fjoin ! $ pureI ! (at-slice T.the-row (refTo b o γ zs) (s ∷ [])) (tt, (tt, tt)) (ap (λ (m : ℕ). sliceVal (b, o) m ∷ []) (sym e), subst (Room T.the-row) (sym e) gn) $ fjoin ! $ fjoin ! $ frame ! $
       owned ! R.the-row (Is R.the-row) ((LL.makes R.the-type R′.the-plain) 𝓤 H A) r _ g $ done !
@@ -200,9 +200,9 @@ module _ {M : Type 1} (𝓤 : URA M) (H : Heap 𝓤) (A : Atoms 𝓤) (W : Given
 
   module _ (𝓣 : Tables 𝓤 H) (known-split : Triple 𝓤 (𝓣 .C #split) (Split 𝓤 H A at-mem run)) (known-core : Triple 𝓤 (𝓣 .C #core) (Core 𝓤 H A at-mem run))
       (known-written : Triple 𝓤 (𝓣 .C #written) (Written 𝓤 H A at-mem run)) (known-join : Triple 𝓤 (𝓣 .C #join) (Join 𝓤 H A at-mem run)) where
-    walk : ent 𝓤 (onEntry 𝓤 H A thin.signature (κ, (κm, (κa, tt))) (q, (qm, (qa, tt))) (refTo b o γ ys, (factor, (xm, (xa, tt)))) at) (WpFn 𝓤 H (𝓣 .C) (𝓣 .Λ) code.function (s ∷ vfloat binary64 factor ∷ sm ∷ sa ∷ []) Post)
+    walk : ent 𝓤 (onEntry 𝓤 H A thin.signature (κ, (κm, (κa, tt))) (q, (qm, (qa, tt))) (refTo b o γ cs, (factor, (xm, (xa, tt)))) at) (WpFn 𝓤 H (𝓣 .C) (𝓣 .Λ) code.function (s ∷ vfloat binary64 factor ∷ sm ∷ sa ∷ []) Post)
     walk =
-        qed W ((‵ (flft κ q) ⊛ toks) ∷ ‵ (fsep (MutSlice (named 0) κ T.the-row .own (refTo b o γ ys) (s ∷ [])) Rest) ∷ []) ∵ enter ! (𝓣 .C) (𝓣 .Λ) code.function (s ∷ vfloat binary64 factor ∷ sm ∷ sa ∷ []) _ $
+        qed W ((‵ (flft κ q) ⊛ toks) ∷ ‵ (fsep (MutSlice (named 0) κ T.the-row .own (refTo b o γ cs) (s ∷ [])) Rest) ∷ []) ∵ enter ! (𝓣 .C) (𝓣 .Λ) code.function (s ∷ vfloat binary64 factor ∷ sm ∷ sa ∷ []) _ $
         alloc1 ! (λ l₀. alloc1 ! (λ l₁. alloc1 ! (λ l₂. alloc1 ! (λ l₃. alloc1 ! (λ l₄. alloc1 ! (λ l₅. alloc1 ! (λ l₆. alloc1 ! (λ l₇. alloc1 ! (λ l₈. alloc1 ! (λ l₉. alloc1 ! (λ l₁₀. alloc1 ! (λ l₁₁. alloc1 ! (λ l₁₂. alloc1 ! (λ l₁₃. alloc1 ! (λ l₁₄. alloc1 ! (λ l₁₅. alloc1 ! (λ l₁₆. alloc1 ! (λ l₁₇. alloc1 ! (λ l₁₈. alloc1 ! (λ l₁₉. alloc1 ! (λ l₂₀. alloc1 ! (λ l₂₁. alloc1 ! (λ l₂₂. alloc1 ! (λ l₂₃. alloc1 ! (λ l₂₄. alloc0 ! $ params1 ! $
         pass1 ! (init ! 46 refl (tt, (tt, (record { fits = gn .0 }, tt)))) $ pass1 ! (init ! 44 refl (float-lawful 𝓤 H A W binary64 .typed factor _ gf .0)) $ pass1 ! (init ! 42 refl (tt, (tt, (record { fits = gm .0 }, tt)))) $ pass1 ! (init ! 40 refl (tt, (tt, (record { fits = ga .0 }, tt)))) $ pass0 ! $
         assigns ! (rep ! maxCircles (float-lit ! tt)) (from ! (stop !)) (init ! 38 refl (same-typed 𝓤 H A W maxCircles blank blank-is)) $
@@ -213,18 +213,18 @@ module _ {M : Type 1} (𝓤 : URA M) (H : Heap 𝓤) (A : Atoms 𝓤) (W : Given
         assigns ! (agg ! (and-then ! (load ! (from ! (stop !)) (look ! 26 refl)) (and-then ! (load ! (from ! (fld ! refl (stop !))) (look-in ! 46 (sub ! 1 refl (whole !)))) (no-more !)))) (from ! (stop !)) (init ! 24 refl (tt, (tt, (record { fits = gn .0 }, tt)))) $
         assigns ! (addr ! (from ! (stop !))) (from ! (stop !)) (init ! 22 refl (tt, tt)) $ assigns ! (addr ! (from ! (stop !))) (from ! (stop !)) (init ! 20 refl (tt, tt)) $ assigns ! (addr ! (from ! (stop !))) (from ! (stop !)) (init ! 18 refl (tt, tt)) $
         -- the borrow of the run is opened, and the arrays are what is lent
-        move ! (51 ∷ []) $ fsplit ! $ fsplit ! $ move ! (1 ∷ []) $ fsplit ! $ move ! (54 ∷ []) $ split ! $ move ! (2 ∷ 3 ∷ 0 ∷ []) $ opens-slice ! tt T.the-row ys b o $
+        move ! (51 ∷ []) $ fsplit ! $ fsplit ! $ move ! (1 ∷ []) $ fsplit ! $ move ! (54 ∷ []) $ split ! $ move ! (2 ∷ 3 ∷ 0 ∷ []) $ opens-slice ! tt T.the-row cs b o $
         move ! (41 ∷ []) $ use1 W (‵ (partAt F64s fullShare zeros l₇ 0)) (same-lies 𝓤 H A W maxCircles blank blank-is l₇ 0) $
         move ! (43 ∷ []) $ use1 W (‵ (partAt F64s fullShare zeros l₆ 0)) (same-lies 𝓤 H A W maxCircles blank blank-is l₆ 0) $
         move ! (45 ∷ []) $ use1 W (‵ (partAt F64s fullShare zeros l₅ 0)) (same-lies 𝓤 H A W maxCircles blank blank-is l₅ 0) $
         move ! (3 ∷ 0 ∷ 1 ∷ 2 ∷ []) $
-        splits ! (fmOf 𝓤 H (W .laws) 𝓣) at-mem run known-split ys zeros zeros zeros b o l₅ l₆ l₇ gn (λ p i₀ i₁ i₂ i₃. (and-then ! (load ! (from ! (stop !)) (look ! 35 refl)) (and-then ! (load ! (from ! (stop !)) (look ! 33 refl)) (and-then ! (load ! (from ! (stop !)) (look ! 31 refl)) (and-then ! (load ! (from ! (stop !)) (look ! 29 refl)) (no-more !)))))) (λ small.
+        splits ! (fmOf 𝓤 H (W .laws) 𝓣) at-mem run known-split cs zeros zeros zeros b o l₅ l₆ l₇ gn (λ p i₀ i₁ i₂ i₃. (and-then ! (load ! (from ! (stop !)) (look ! 35 refl)) (and-then ! (load ! (from ! (stop !)) (look ! 33 refl)) (and-then ! (load ! (from ! (stop !)) (look ! 31 refl)) (and-then ! (load ! (from ! (stop !)) (look ! 29 refl)) (no-more !)))))) (λ small.
         land ! (from ! (stop !)) (init ! 38 refl (tt, record { fits = small })) $
         assigns ! (addr ! (from ! (stop !))) (from ! (stop !)) (init ! 26 refl (tt, tt)) $ assigns ! (addr ! (from ! (stop !))) (from ! (stop !)) (init ! 24 refl (tt, tt)) $ assigns ! (addr ! (from ! (stop !))) (from ! (stop !)) (init ! 22 refl (tt, tt)) $
         -- the core: the first two arrays are lent to be written, the third to be read
-        move ! (9 ∷ []) $ use1 W (‵ Rest ⊛ ‵ Rest) twice-rest $ split ! $ move ! (3 ∷ []) $ lent-to-write ! tt F64s (named 0) (splitOf xsOf ys zeros) l₅ 0 (λ ν₀ δ₀.
-        move ! (6 ∷ []) $ lent-to-write ! tt F64s (named 1) (splitOf ysOf ys zeros) l₆ 0 (λ ν₁ δ₁.
-        move ! (9 ∷ []) $ lent-to-read ! tt F64s (named 2) (splitOf radiiOf ys zeros) l₇ 0 (λ ν₂ δ₂.
+        move ! (9 ∷ []) $ use1 W (‵ Rest ⊛ ‵ Rest) twice-rest $ split ! $ move ! (3 ∷ []) $ lent-to-write ! tt F64s (named 0) (splitOf xsOf cs zeros) l₅ 0 (λ ν₀ δ₀.
+        move ! (6 ∷ []) $ lent-to-write ! tt F64s (named 1) (splitOf ysOf cs zeros) l₆ 0 (λ ν₁ δ₁.
+        move ! (9 ∷ []) $ lent-to-read ! tt F64s (named 2) (splitOf radiiOf cs zeros) l₇ 0 (λ ν₂ δ₂.
         move ! (6 ∷ 7 ∷ 3 ∷ 4 ∷ 0 ∷ 1 ∷ 15 ∷ 10 ∷ []) $ group ! 8 $ use1 W (raw (Core 𝓤 H A at-mem run .pre (to-core l₅ l₆ l₇ ν₀ ν₁ ν₂ δ₀ δ₁ δ₂))) (goes-core l₅ l₆ l₇ ν₀ ν₁ ν₂ δ₀ δ₁ δ₂) $
         calls-at ! (fmOf 𝓤 H (W .laws) 𝓣) (Core 𝓤 H A at-mem run) known-core (to-core l₅ l₆ l₇ ν₀ ν₁ ν₂ δ₀ δ₁ δ₂) (and-then ! (load ! (from ! (stop !)) (look ! 26 refl)) (and-then ! (load ! (from ! (stop !)) (look ! 24 refl)) (and-then ! (load ! (from ! (stop !)) (look ! 22 refl)) (and-then ! (load ! (from ! (stop !)) (look ! 42 refl)) (and-then ! (load ! (from ! (stop !)) (look ! 51 refl)) (and-then ! (load ! (from ! (stop !)) (look ! 49 refl)) (and-then ! (load ! (from ! (stop !)) (look ! 47 refl)) (no-more !)))))))) (λ v.
         use1 W (later (some (λ (r : Result). (core-toks l₅ l₆ l₇ ν₀ ν₁ ν₂ δ₀ δ₁ δ₂ ⊛ ‵ (R.the-row .own r (v ∷ []))) ⊛ raw (ensured 𝓤 H A core.ended (core.clauses 𝓤 H A at-mem run) (core-lfts l₅ l₆ l₇ ν₀ ν₁ ν₂ δ₀ δ₁ δ₂) (core-args l₅ l₆ l₇ ν₀ ν₁ ν₂ δ₀ δ₁ δ₂) tt r)))) (id⊢ 𝓤 _) $ await ! tt $ pick ! (λ r.
@@ -233,7 +233,7 @@ module _ {M : Type 1} (𝓤 : URA M) (H : Heap 𝓤) (A : Atoms 𝓤) (W : Given
         fsplit ! $ move ! (1 ∷ []) $ fsplit ! $ move ! (1 ∷ []) $ drop ! $ move ! (2 ∷ []) $ split ! $ move ! (1 ∷ []) $ peeks ! R.the-row (Is R.the-row) (shows 𝓤 H A R.the-row) r (v ∷ []) (λ is.
         land ! (from ! (stop !)) (init ! 43 refl (typed r _ is)) $ rewrite ! 43 (λ (u : Val). ‵ (fat fullShare R′.mir l₉ 0 u)) (mach-of r v is) refl $ drop ! $
         split ! $ move ! (1 ∷ []) $ split ! $ move ! (1 ∷ []) $ split ! $
-        move ! (3 ∷ 8 ∷ 5 ∷ []) $ written-back ! tt F64s (ws .0) l₅ 0 $ move ! (3 ∷ 6 ∷ 4 ∷ []) $ written-back ! tt F64s (ws .1 .0) l₆ 0 $ move ! (2 ∷ 4 ∷ []) $ read-back ! tt F64s (splitOf radiiOf ys zeros) l₇ 0 $
+        move ! (3 ∷ 8 ∷ 5 ∷ []) $ written-back ! tt F64s (ws .0) l₅ 0 $ move ! (3 ∷ 6 ∷ 4 ∷ []) $ written-back ! tt F64s (ws .1 .0) l₆ 0 $ move ! (2 ∷ 4 ∷ []) $ read-back ! tt F64s (splitOf radiiOf cs zeros) l₇ 0 $
         move ! (2 ∷ []) $ array-long ! maxCircles (ws .0) l₅ 0 (λ long-x. move ! (2 ∷ []) $ array-long ! maxCircles (ws .1 .0) l₆ 0 (λ long-y.
         -- what is written back
         assigns ! (addr ! (from ! (fld ! refl (hop ! (look-in ! 53 (sub ! 0 refl (whole !))) (stop !))))) (from ! (stop !)) (init ! 18 refl (tt, tt)) $
@@ -241,12 +241,12 @@ module _ {M : Type 1} (𝓤 : URA M) (H : Heap 𝓤) (A : Atoms 𝓤) (W : Given
         assigns ! (addr ! (from ! (stop !))) (from ! (stop !)) (init ! 14 refl (tt, tt)) $ assigns ! (addr ! (from ! (stop !))) (from ! (stop !)) (init ! 12 refl (tt, tt)) $
         counts ! (fmOf 𝓤 H (W .laws) 𝓣) at-mem run known-written (r .refusal) n (small-refusal r is) (gn .0) (λ p. (and-then ! (load ! (from ! (fld ! refl (stop !))) (look-in ! 41 (sub ! 0 refl (whole !)))) (and-then ! (load ! (from ! (stop !)) (look ! 43 refl)) (no-more !)))) (λ few.
         land ! (from ! (stop !)) (init ! 10 refl (tt, record { fits = few })) $
-        move ! (5 ∷ 1 ∷ 0 ∷ []) $ joins ! (fmOf 𝓤 H (W .laws) 𝓣) at-mem run known-join ys (ws .0) (ws .1 .0) (writtenOf (r .refusal) n) b o l₅ l₆ gn few (fits-of r (ws .0) (ws .1 .0) e) (λ p i₀ i₁ i₂. (and-then ! (load ! (from ! (stop !)) (look ! 17 refl)) (and-then ! (load ! (from ! (stop !)) (look ! 15 refl)) (and-then ! (load ! (from ! (stop !)) (look ! 13 refl)) (and-then ! (load ! (from ! (stop !)) (look ! 11 refl)) (no-more !)))))) (λ zs long said.
+        move ! (5 ∷ 1 ∷ 0 ∷ []) $ joins ! (fmOf 𝓤 H (W .laws) 𝓣) at-mem run known-join cs (ws .0) (ws .1 .0) (writtenOf (r .refusal) n) b o l₅ l₆ gn few (fits-of r (ws .0) (ws .1 .0) e) (λ p i₀ i₁ i₂. (and-then ! (load ! (from ! (stop !)) (look ! 17 refl)) (and-then ! (load ! (from ! (stop !)) (look ! 15 refl)) (and-then ! (load ! (from ! (stop !)) (look ! 13 refl)) (and-then ! (load ! (from ! (stop !)) (look ! 11 refl)) (no-more !)))))) (λ zs long said.
         land ! (from ! (stop !)) (init ! 20 refl (tt, tt)) $
         assigns ! (of-opd ! (load ! (from ! (stop !)) (look ! 40 refl))) (from ! (stop !)) (init ! 55 refl (typed r _ (is-mach r v is))) $
-        move ! (0 ∷ 6 ∷ 7 ∷ 8 ∷ []) $ closes-slice ! tt T.the-row ys zs long b o $
+        move ! (0 ∷ 6 ∷ 7 ∷ 8 ∷ []) $ closes-slice ! tt T.the-row cs zs long b o $
         returns ! (look ! 54 refl) $
-        move ! (5 ∷ []) $ use1 W (‵ (froom (numbersTy maxCircles) l₇ 0)) (array-room 𝓤 H A W maxCircles (splitOf radiiOf ys zeros) l₇ 0) $
+        move ! (5 ∷ []) $ use1 W (‵ (froom (numbersTy maxCircles) l₇ 0)) (array-room 𝓤 H A W maxCircles (splitOf radiiOf cs zeros) l₇ 0) $
         move ! (5 ∷ []) $ use1 W (‵ (froom (numbersTy maxCircles) l₆ 0)) (array-room 𝓤 H A W maxCircles (ws .1 .0) l₆ 0) $
         move ! (5 ∷ []) $ use1 W (‵ (froom (numbersTy maxCircles) l₅ 0)) (array-room 𝓤 H A W maxCircles (ws .0) l₅ 0) $
         forget ! 54 refl $ forget ! 52 refl $ forget ! 50 refl $ forget ! 48 refl $ forget ! 46 refl $ forget ! 41 refl $ forget ! 39 refl $ forget ! 37 refl $ forget ! 35 refl $ forget ! 33 refl $ forget ! 31 refl $ forget ! 29 refl $ forget ! 27 refl $ forget ! 25 refl $ forget ! 23 refl $ forget ! 21 refl $ forget ! 19 refl $ forget ! 17 refl $ forget ! 15 refl $ forget ! 13 refl $ forget ! 11 refl $ forget ! 9 refl $

@@ -78,11 +78,11 @@ module _ {M : Type 1} (𝓤 : URA M) (H : Heap 𝓤) (A : Atoms 𝓤) (at-mem : 
   Core = tripleOf 𝓤 H A core.signature (core.spec 𝓤 H A at-mem run)
 
 module _ {M : Type 1} (𝓤 : URA M) (H : Heap 𝓤) (A : Atoms 𝓤) (W : Given 𝓤 H A) (at-mem : Memory → SProp 𝓤) (run : Routine → Fun 𝓤) (κ : Lft) (q : Share) (x : RefT (List Rectangle)) (padding : Float) (gp : Is f64 padding (vfloat binary64 padding ∷ [])) (gn : Room T.the-row (length (x .now))) where
-  abbrev ys : List Rectangle
-  ys = x .now
+  abbrev cs : List Rectangle
+  cs = x .now
 
   abbrev n : ℕ
-  n = length ys
+  n = length cs
 
   abbrev s : Val
   s = sliceVal (x .ptr) n
@@ -105,10 +105,10 @@ module _ {M : Type 1} (𝓤 : URA M) (H : Heap 𝓤) (A : Atoms 𝓤) (W : Given
 
   -- what the core says of its answer, and what follows for the run
   abbrev Solved : Packed → Type 0
-  Solved r = PackedAt (splitOf widthsOf ys zeros) (splitOf heightsOf ys zeros) n padding r
+  Solved r = PackedAt (splitOf widthsOf cs zeros) (splitOf heightsOf cs zeros) n padding r
 
-  answers : (r : Packed) → Solved r → Packs ys padding r
-  answers r e = packed-packs ys padding r e
+  answers : (r : Packed) → Solved r → Packs cs padding r
+  answers r e = packed-packs cs padding r e
 
   -- what the core asks, of the arrays at their places, each lent for a lifetime under a name
   module _ (b₀ b₁ : ℕ) (ν₀ ν₁ : ℕ) (δ₀ δ₁ : GName) where
@@ -116,7 +116,7 @@ module _ {M : Type 1} (𝓤 : URA M) (H : Heap 𝓤) (A : Atoms 𝓤) (W : Given
     core-lfts = (ν₀ ∷ [], (ν₁ ∷ [], tt))
 
     abbrev core-args : Args core.signature core-lfts
-    core-args = (refTo b₀ 0 δ₀ (splitOf widthsOf ys zeros), (refTo b₁ 0 δ₁ (splitOf heightsOf ys zeros), (n, (padding, tt))))
+    core-args = (refTo b₀ 0 δ₀ (splitOf widthsOf cs zeros), (refTo b₁ 0 δ₁ (splitOf heightsOf cs zeros), (n, (padding, tt))))
 
     abbrev core-toks : Item 𝓤
     core-toks = ‵ (flft (ν₀ ∷ []) fullShare) ⊛ ‵ (flft (ν₁ ∷ []) fullShare) ⊛ ‵ ftrue
@@ -125,12 +125,12 @@ module _ {M : Type 1} (𝓤 : URA M) (H : Heap 𝓤) (A : Atoms 𝓤) (W : Given
     to-core = ((core-lfts, (fullShare, (fullShare, tt)), tt, core-args, (vptr b₀ 0 ∷ [], (vptr b₁ 0 ∷ [], (vint w64 n ∷ [], (vfloat binary64 padding ∷ [], tt))))), tt)
 
     abbrev Handed : List (Item 𝓤)
-    Handed = ‵ (ShrRef (named 0) (ν₀ ∷ []) F64s .own (refTo b₀ 0 δ₀ (splitOf widthsOf ys zeros)) (vptr b₀ 0 ∷ [])) ∷ ‵ (flft (ν₀ ∷ []) fullShare) ∷ ‵ (ShrRef (named 1) (ν₁ ∷ []) F64s .own (refTo b₁ 0 δ₁ (splitOf heightsOf ys zeros)) (vptr b₁ 0 ∷ [])) ∷ ‵ (flft (ν₁ ∷ []) fullShare) ∷ ‵ Rest ∷ []
+    Handed = ‵ (ShrRef (named 0) (ν₀ ∷ []) F64s .own (refTo b₀ 0 δ₀ (splitOf widthsOf cs zeros)) (vptr b₀ 0 ∷ [])) ∷ ‵ (flft (ν₀ ∷ []) fullShare) ∷ ‵ (ShrRef (named 1) (ν₁ ∷ []) F64s .own (refTo b₁ 0 δ₁ (splitOf heightsOf cs zeros)) (vptr b₁ 0 ∷ [])) ∷ ‵ (flft (ν₁ ∷ []) fullShare) ∷ ‵ Rest ∷ []
 
     goes-core : ent 𝓤 (⋆ 𝓤 H A Handed) (Core 𝓤 H A at-mem run .pre to-core)
     goes-core = qed W Handed ∵ owned ! usize (Is usize) (uint-makes 𝓤 H A W w64) n _ (refl, gn .0) $ move ! (0 ∷ 5 ∷ []) $ fjoin ! $ move ! (3 ∷ 0 ∷ []) $ fjoin ! $ move ! (1 ∷ 0 ∷ []) $ fjoin ! $ nothing ! $ move ! (3 ∷ 0 ∷ []) $ join ! $ move ! (2 ∷ 0 ∷ []) $ join ! $ join ! $ frame ! $ done !
 
-  exits : (r : Packed) (v : Val) → Packs ys padding r → ent 𝓤 (⋆ 𝓤 H A (‵ (flft κ q) ∷ ‵ Lent ∷ ‵ Rest ∷ ‵ (R.the-row .own r (v ∷ [])) ∷ [])) (Post v)
+  exits : (r : Packed) (v : Val) → Packs cs padding r → ent 𝓤 (⋆ 𝓤 H A (‵ (flft κ q) ∷ ‵ Lent ∷ ‵ Rest ∷ ‵ (R.the-row .own r (v ∷ [])) ∷ [])) (Post v)
   exits r v e =
       qed W (‵ (flft κ q) ∷ ‵ Lent ∷ ‵ Rest ∷ ‵ (R.the-row .own r (v ∷ [])) ∷ []) ∵
       suffices ! _ (ends-at 𝓤 H A thin.ended stayed (thin.clauses 𝓤 H A at-mem run) W (((κ, tt), (q, tt), tt, (x, (padding, tt)), at), tt) v r (tt, (tt, tt)) (tt, (tt, tt))) $ says ! e $ nothing ! $ move ! (1 ∷ 0 ∷ []) $ join ! $ frame ! $ fjoin ! $ frame ! $ done !
@@ -153,8 +153,8 @@ module _ {M : Type 1} (𝓤 : URA M) (H : Heap 𝓤) (A : Atoms 𝓤) (W : Given
         land ! (from ! (stop !)) (init ! 13 refl (tt, record { fits = small })) $
         assigns ! (addr ! (from ! (stop !))) (from ! (stop !)) (init ! 7 refl (tt, tt)) $ assigns ! (addr ! (from ! (stop !))) (from ! (stop !)) (init ! 5 refl (tt, tt)) $
         -- the core: the arrays are lent to be read
-        move ! (4 ∷ []) $ use1 W (‵ Rest ⊛ ‵ Rest) twice-rest $ split ! $ move ! (3 ∷ []) $ lent-to-read ! tt F64s (named 0) (splitOf widthsOf ys zeros) l₃ 0 (λ ν₀ δ₀.
-        move ! (6 ∷ []) $ lent-to-read ! tt F64s (named 1) (splitOf heightsOf ys zeros) l₄ 0 (λ ν₁ δ₁.
+        move ! (4 ∷ []) $ use1 W (‵ Rest ⊛ ‵ Rest) twice-rest $ split ! $ move ! (3 ∷ []) $ lent-to-read ! tt F64s (named 0) (splitOf widthsOf cs zeros) l₃ 0 (λ ν₀ δ₀.
+        move ! (6 ∷ []) $ lent-to-read ! tt F64s (named 1) (splitOf heightsOf cs zeros) l₄ 0 (λ ν₁ δ₁.
         move ! (3 ∷ 4 ∷ 0 ∷ 1 ∷ 7 ∷ []) $ group ! 5 $ use1 W (raw (Core 𝓤 H A at-mem run .pre (to-core l₃ l₄ ν₀ ν₁ δ₀ δ₁))) (goes-core l₃ l₄ ν₀ ν₁ δ₀ δ₁) $
         calls-at ! (fmOf 𝓤 H (W .laws) 𝓣) (Core 𝓤 H A at-mem run) known-core (to-core l₃ l₄ ν₀ ν₁ δ₀ δ₁) (and-then ! (load ! (from ! (stop !)) (look ! 8 refl)) (and-then ! (load ! (from ! (stop !)) (look ! 6 refl)) (and-then ! (load ! (from ! (stop !)) (look ! 16 refl)) (and-then ! (load ! (from ! (stop !)) (look ! 20 refl)) (no-more !))))) (λ v.
         use1 W (later (some (λ (r : Packed). (core-toks l₃ l₄ ν₀ ν₁ δ₀ δ₁ ⊛ ‵ (R.the-row .own r (v ∷ []))) ⊛ raw (ensured 𝓤 H A core.ended (core.clauses 𝓤 H A at-mem run) (core-lfts l₃ l₄ ν₀ ν₁ δ₀ δ₁) (core-args l₃ l₄ ν₀ ν₁ δ₀ δ₁) tt r)))) (id⊢ 𝓤 _) $ await ! tt $ pick ! (λ r.
@@ -163,10 +163,10 @@ module _ {M : Type 1} (𝓤 : URA M) (H : Heap 𝓤) (A : Atoms 𝓤) (W : Given
         split ! $ move ! (1 ∷ []) $ peeks ! R.the-row (Is R.the-row) (shows 𝓤 H A R.the-row) r (v ∷ []) (λ is.
         land ! (from ! (stop !)) (init ! 25 refl (LL.lawful R.the-type R′.the-laws 𝓤 H A W .typed r _ is .0)) $
         move ! (1 ∷ []) $ split ! $ move ! (1 ∷ []) $ split ! $ move ! (1 ∷ []) $ drop ! $
-        move ! (1 ∷ 4 ∷ []) $ read-back ! tt F64s (splitOf widthsOf ys zeros) l₃ 0 $ move ! (1 ∷ 3 ∷ []) $ read-back ! tt F64s (splitOf heightsOf ys zeros) l₄ 0 $
+        move ! (1 ∷ 4 ∷ []) $ read-back ! tt F64s (splitOf widthsOf cs zeros) l₃ 0 $ move ! (1 ∷ 3 ∷ []) $ read-back ! tt F64s (splitOf heightsOf cs zeros) l₄ 0 $
         returns ! (look ! 24 refl) $
-        move ! (1 ∷ []) $ use1 W (‵ (froom (numbersTy maxCircles) l₃ 0)) (array-room 𝓤 H A W maxCircles (splitOf widthsOf ys zeros) l₃ 0) $
-        move ! (1 ∷ []) $ use1 W (‵ (froom (numbersTy maxCircles) l₄ 0)) (array-room 𝓤 H A W maxCircles (splitOf heightsOf ys zeros) l₄ 0) $
+        move ! (1 ∷ []) $ use1 W (‵ (froom (numbersTy maxCircles) l₃ 0)) (array-room 𝓤 H A W maxCircles (splitOf widthsOf cs zeros) l₃ 0) $
+        move ! (1 ∷ []) $ use1 W (‵ (froom (numbersTy maxCircles) l₄ 0)) (array-room 𝓤 H A W maxCircles (splitOf heightsOf cs zeros) l₄ 0) $
         forget ! 24 refl $ forget ! 22 refl $ forget ! 20 refl $ forget ! 16 refl $ forget ! 14 refl $ forget ! 12 refl $ forget ! 10 refl $ forget ! 8 refl $ forget ! 6 refl $
         move ! (24 ∷ 25 ∷ []) $ free1 ! $ move ! (22 ∷ 23 ∷ []) $ free1 ! $ move ! (20 ∷ 21 ∷ []) $ free1 ! $ move ! (1 ∷ 19 ∷ []) $ free1 ! $ move ! (0 ∷ 17 ∷ []) $ free1 ! $ move ! (14 ∷ 15 ∷ []) $ free1 ! $ move ! (12 ∷ 13 ∷ []) $ free1 ! $ move ! (10 ∷ 11 ∷ []) $ free1 ! $ move ! (8 ∷ 9 ∷ []) $ free1 ! $ move ! (6 ∷ 7 ∷ []) $ free1 ! $ move ! (4 ∷ 5 ∷ []) $ free1 ! $ free0 ! $
         keep ! (2 ∷ 3 ∷ 1 ∷ 0 ∷ []) $
