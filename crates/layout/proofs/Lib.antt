@@ -11,3 +11,7 @@ pub mod Settled
 pub mod ClusterBoxes
 pub mod Recentred
 pub mod JoinCall
+pub mod PackedClusters
+pub mod WholeSteps
+pub mod FrontLayouts
+pub mod FrontContained

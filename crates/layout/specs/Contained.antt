@@ -5,7 +5,7 @@ use mathlib.Core.Bool.{cond}
 use mathlib.Core.List.{List}
 use lib.Ieee.{Float}
 use Rattle.shapes.specs.declared.geometry.shapes.rectangle.Rectangle.{Rectangle}
-use Rattle.scope.specs.Refusals.{tooMany}
+use Rattle.scope.specs.Refusals.{tooMany, containerRefusal}
 use Rattle.scope.specs.Container.{Contained, contained, settled}
 use Rattle.intake.specs.CauseWords.{front}
 use Rattle.layout.specs.Answers.{placedOf}
@@ -17,6 +17,10 @@ unfoldable pub frontContained : ℕ → List Float → List Float → List Float
 frontContained n xs ys rs container =
     let many : Contained = record { refusal = 1; container = container; circles = front n xs ys rs } in
     cond (tooMany n) many (contained (front n xs ys rs) container)
+
+-- the number that comes back for them
+unfoldable pub containedNumber : ℕ → List Float → List Float → List Float → Rectangle → ℕ
+containedNumber n xs ys rs container = cond (tooMany n) 1 (containerRefusal (front n xs ys rs) container)
 
 -- the core's answer, and after an acceptance the circles that its lists show
 pub record SettledAt (xs ys rs : List Float) (n : ℕ) (container : Rectangle) (r : Placed) (xs′ ys′ : List Float) : Type 0 where

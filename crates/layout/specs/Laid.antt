@@ -32,6 +32,10 @@ settledClusters count numbers factor cs = centredLayout (packedClusters count nu
 unfoldable pub frontLayout : ℕ → List Float → List Float → List Float → Float → List ℕ → List Float → Layout
 frontLayout n xs ys rs factor masks areas = cond (tooMany n) (refusedLayout 1 []) (layout (front n xs ys rs) factor masks areas)
 
+-- the number that comes back for them
+unfoldable pub frontNumber : ℕ → List Float → List Float → List Float → Float → List ℕ → List Float → ℕ
+frontNumber n xs ys rs factor masks areas = cond (tooMany n) 1 (layoutRefusal (front n xs ys rs) factor masks areas)
+
 -- the core's answer: the result, and after an acceptance the circles that its lists show, which keep the promises
 pub record Laid (xs ys rs : List Float) (n : ℕ) (factor : Float) (masks : List ℕ) (areas : List Float) (r : Result) (xs′ ys′ : List Float) : Type 0 where
   pub result : resultOf r ≡ frontLayout n xs ys rs factor masks areas .result

@@ -187,7 +187,67 @@ fn pack_clusters(
     let mut widths = [0.0; MAX_CIRCLES];
     let mut up = [0.0; MAX_CIRCLES];
     let mut heights = [0.0; MAX_CIRCLES];
-    let padding = boxed(
+    let mut new_xs = [0.0; MAX_CIRCLES];
+    let mut new_ys = [0.0; MAX_CIRCLES];
+    in_grid(
+        xs,
+        ys,
+        radii,
+        numbers,
+        count,
+        factor,
+        &mut across,
+        &mut widths,
+        &mut up,
+        &mut heights,
+        &mut new_xs,
+        &mut new_ys,
+    )
+}
+
+// What follows the factor is room to work in: the boxes' centres and sides, and their new centres.
+fn in_grid(
+    xs: &mut [f64],
+    ys: &mut [f64],
+    radii: &[f64],
+    numbers: &[u8],
+    count: usize,
+    factor: f64,
+    across: &mut [f64; MAX_CIRCLES],
+    widths: &mut [f64; MAX_CIRCLES],
+    up: &mut [f64; MAX_CIRCLES],
+    heights: &mut [f64; MAX_CIRCLES],
+    new_xs: &mut [f64; MAX_CIRCLES],
+    new_ys: &mut [f64; MAX_CIRCLES],
+) -> f64
+    requires { ⌜ (length (now ys) ≡ length (now xs)) × (length (now radii) ≡ length (now xs)) × (length (now numbers) ≡ length (now xs)) × Lifted (now radii) × (count ≤ maxCircles) × Numbered count (now numbers) × Packable count (now numbers) (circlesOf (now xs) (now ys) (now radii)) factor × (2 ≤ count) ⌝ }
+    ensures padding { λ r. ⌜ r ≡ padding (boxes count (now (numbers .entry)) (circlesOf (now (xs .entry)) (now (ys .entry)) (now (radii .entry)))) factor ⌝ }
+    ensures circles { λ r. ⌜ circlesOf (now (xs .exit)) (now (ys .exit)) (now (radii .entry)) ≡ packedClusters count (now (numbers .entry)) factor (circlesOf (now (xs .entry)) (now (ys .entry)) (now (radii .entry))) ⌝ }
+{
+    let padding = boxed_front(xs, ys, radii, numbers, count, factor, across, widths, up, heights);
+    pack_sides(widths, heights, count, padding, new_xs, new_ys);
+    shift(xs, numbers, across, new_xs);
+    shift(ys, numbers, up, new_ys);
+    padding
+}
+
+fn boxed_front(
+    xs: &[f64],
+    ys: &[f64],
+    radii: &[f64],
+    numbers: &[u8],
+    count: usize,
+    factor: f64,
+    across: &mut [f64],
+    widths: &mut [f64],
+    up: &mut [f64],
+    heights: &mut [f64],
+) -> f64
+    requires { ⌜ (length (now ys) ≡ length (now xs)) × (length (now radii) ≡ length (now xs)) × (length (now numbers) ≡ length (now xs)) × (count ≤ maxCircles) × Numbered count (now numbers) × ((length (now across) ≡ maxCircles) × (length (now widths) ≡ maxCircles) × (length (now up) ≡ maxCircles) × (length (now heights) ≡ maxCircles)) ⌝ }
+    ensures lists { λ _. ⌜ BoxLists (boxes count (now (numbers .entry)) (circlesOf (now (xs .entry)) (now (ys .entry)) (now (radii .entry)))) (take count (now (across .exit))) (take count (now (widths .exit))) (take count (now (up .exit))) (take count (now (heights .exit))) ⌝ }
+    ensures padding { λ r. ⌜ r ≡ padding (boxes count (now (numbers .entry)) (circlesOf (now (xs .entry)) (now (ys .entry)) (now (radii .entry)))) factor ⌝ }
+{
+    boxed(
         xs,
         ys,
         radii,
@@ -197,13 +257,7 @@ fn pack_clusters(
         &mut widths[0..count],
         &mut up[0..count],
         &mut heights[0..count],
-    );
-    let mut new_xs = [0.0; MAX_CIRCLES];
-    let mut new_ys = [0.0; MAX_CIRCLES];
-    pack_sides(&widths, &heights, count, padding, &mut new_xs, &mut new_ys);
-    shift(xs, numbers, &across, &new_xs);
-    shift(ys, numbers, &up, &new_ys);
-    padding
+    )
 }
 
 // The boxes of the clusters, and the padding between them.

@@ -18,6 +18,8 @@ use Rattle.scope.specs.Runs.{tab, filled, any}
 use Rattle.scope.specs.Limits.{circleCap, sideOk}
 use Rattle.scope.specs.Refusals.{tooMany, badSide, packRefusal}
 use Rattle.scope.specs.Packing.{Packing, noRectangle, rectangle, widthAt, heightAt, packed, packing, skylinePack}
+use Rattle.promises.proofs.Cases.{is-false}
+use Rattle.promises.proofs.Accepted.{not-too-many-iff}
 use Rattle.promises.proofs.Runs.{length-tab, getD-tab}
 use Rattle.promises.proofs.AfterRefusal.{refusedPacking}
 use Rattle.intake.specs.Limits.{maxCircles}
@@ -112,11 +114,20 @@ by-lists {k} {ws} {hs} l t =
     (λ i h. let g : i < k = rw w at h in rw (t .wide i g, t .high i g, getD-tab k (at ws) i nan g, getD-tab k (at hs) i nan g) (not-both (sideOk (at ws i)) (sideOk (at hs i))))
 
 module _ (k : ℕ) (ws hs : List Float) (rects : List Rectangle) (s : Sides k ws hs rects) (pad : Float) where
-  same-boxes : packed golden rects pad ≡ packed golden (sided k ws hs) pad
+  pub same-boxes : packed golden rects pad ≡ packed golden (sided k ws hs) pad
   same-boxes = packed-by-sides k ws hs rects s pad ∙ sym (packed-by-sides k ws hs (sided k ws hs) (sided-sides k ws hs) pad)
 
   same-side : any badSide rects ≡ any badSide (sided k ws hs)
   same-side = by-lists rects s ∙ sym (by-lists (sided k ws hs) (sided-sides k ws hs))
+
+  pub same-number : packRefusal rects pad ≡ packRefusal (sided k ws hs) pad
+  unfolding packRefusal
+  same-number = rw (s .long, sided-sides k ws hs .long, same-side)
+
+  -- so boxes that are accepted are accepted by their sides
+  pub sides-accepted : k ≤ maxCircles → packRefusal rects pad ≡ 0 → sidesNumber k ws hs pad ≡ 0
+  unfolding sidesNumber circleCap
+  sides-accepted l h = rw (is-false (tooMany k) (not-too-many-iff k .1 l)) (sym same-number ∙ h)
 
   pub packing-by-sides : skylinePack rects pad ≡ skylinePack (sided k ws hs) pad
   unfolding skylinePack packRefusal

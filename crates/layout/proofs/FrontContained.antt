@@ -1,0 +1,96 @@
+-- The container call of circles whose numbers stand in the front of three lists: its number, and what is answered after a refusal and after an acceptance.
+use Prim.Native.Nat.{ℕ, zero, suc, _-_, _≤_, _<_}
+use native.Mathlib.Nat.{sub-zero}
+use native.Mathlib.Omega.{arith}
+use mathlib.Core.Path.{_≡_, refl, sym, ap, _∙_}
+use mathlib.Core.Logic.{_≢_}
+use mathlib.Core.Bool.{Bool, true, false, cond, _||_}
+use mathlib.Core.List.{List, [], _∷_, _++_}
+use lib.Dec.{T}
+use lib.Ieee.{Float}
+use lib.ListN.{length, take, drop}
+use lib.Seq.{take-at, length-take-le}
+use Rattle.shapes.specs.declared.geometry.shapes.circle.Circle.{Circle}
+use Rattle.shapes.specs.declared.geometry.shapes.rectangle.Rectangle.{Rectangle}
+use Rattle.scope.specs.Runs.{any}
+use Rattle.scope.specs.Limits.{circleCap}
+use Rattle.scope.specs.Links.{circle, nowhere}
+use Rattle.scope.specs.Refusals.{causes, causeHolds, first, refusal, tooMany, badCentre, badPoint, badRadius, badSide, containerRefusal}
+use Rattle.scope.specs.Container.{Contained, contained, settled}
+use Rattle.promises.proofs.Cases.{is-false, not-not-iff}
+use Rattle.promises.proofs.Accepted.{not-too-many-iff}
+use Rattle.promises.proofs.AfterRefusal.{container-answers}
+use Rattle.promises.proofs.EntryPoints.{container-reads}
+use Rattle.promises.proofs.Runs.{any-at}
+use Rattle.scope.specs.Limits.{radiusOk}
+use Rattle.intake.specs.Limits.{maxCircles}
+use Rattle.intake.specs.Columns.{circlesOf, Lifted}
+use Rattle.intake.specs.CauseWords.{front}
+use Rattle.intake.proofs.Checking.{few}
+use Rattle.intake.proofs.Columns.{length-shown}
+use Rattle.layout.specs.Answers.{placedOf}
+use Rattle.layout.specs.Settling.{settledAs}
+use Rattle.layout.specs.Contained.{frontContained, containedNumber, SettledAt, SettledFront}
+use Rattle.layout.specs.declared.container.Placed.{Placed}
+use Rattle.layout.proofs.WholeSteps.{radii-lifted}
+use Rattle.layout.proofs.FrontLayouts.{few-in-front}
+
+module _ (n : ℕ) (xs ys rs : List Float) (container : Rectangle) where
+  abbrev cs : List Circle
+  cs = front n xs ys rs
+
+  at-once : (c r p s : Bool) → refusal ((1, true) ∷ (3, c) ∷ (4, r) ∷ (3, p) ∷ (7, s) ∷ []) ≡ 1
+  unfolding refusal first causeHolds causes
+  at-once c r p s = refl
+
+  -- one number for a circle's centre and the container's
+  in-order : (c r p s : Bool) → refusal ((1, false) ∷ (3, c) ∷ (4, r) ∷ (3, p) ∷ (7, s) ∷ []) ≡ refusal ((1, false) ∷ (3, c || p) ∷ (4, r) ∷ (7, s) ∷ [])
+  unfolding refusal first causeHolds causes
+  in-order true r p s = refl
+  in-order false r p s = refl
+
+  pub container-number : refusal ((1, tooMany n) ∷ (3, any badCentre cs) ∷ (4, any badRadius cs) ∷ (3, badPoint (container .center)) ∷ (7, badSide container) ∷ []) ≡ containedNumber n xs ys rs container
+  unfolding containedNumber containerRefusal
+  container-number = by-test (tooMany n) refl
+    where
+      by-test : (b : Bool) → tooMany n ≡ b
+          → refusal ((1, b) ∷ (3, any badCentre cs) ∷ (4, any badRadius cs) ∷ (3, badPoint (container .center)) ∷ (7, badSide container) ∷ []) ≡ cond b 1 (containerRefusal cs container)
+      by-test true e = at-once (any badCentre cs) (any badRadius cs) (badPoint (container .center)) (badSide container)
+      by-test false e = in-order (any badCentre cs) (any badRadius cs) (badPoint (container .center)) (badSide container) ∙ rw (few-in-front n xs ys rs e)
+
+  both : (b : Bool) → tooMany n ≡ b → _≡_ {A = ℕ} (cond b 1 (containerRefusal cs container)) 0 → (tooMany n ≡ false) × (containerRefusal cs container ≡ 0)
+  both true e z = absurd (omega arith)
+  both false e z = (e, z)
+
+  pub number-none : containedNumber n xs ys rs container ≡ 0 → (n ≤ maxCircles) × (containerRefusal cs container ≡ 0)
+  unfolding containedNumber circleCap
+  number-none z = let b = both (tooMany n) refl z in (few n (b .0), b .1)
+
+  -- ---- a refusal
+  pub settled-refused : (number : ℕ) → number ≡ containedNumber n xs ys rs container → number ≢ 0 → SettledAt xs ys rs n container (record { refusal = number; container = container }) xs ys
+  unfolding containedNumber frontContained
+  settled-refused number e h = record { placed = by-test (tooMany n) refl; circles = λ z. absurd (h z) }
+    where
+      by-test : (b : Bool) → tooMany n ≡ b → _≡_ {A = Placed} (record { refusal = number; container = container }) (placedOf (frontContained n xs ys rs container))
+      by-test true t = rw (e, t)
+      by-test false t =
+          let is : number ≡ containerRefusal cs container = e ∙ rw t in
+          rw (t, container-answers cs container .at-refusal (λ z. h (is ∙ z)), is)
+
+  -- ---- an acceptance
+  module _ (room : n ≤ maxCircles) (h : containerRefusal cs container ≡ 0) where
+    pub front-lifted : length xs ≡ maxCircles → length rs ≡ maxCircles → Lifted (take n rs)
+    unfolding badRadius
+    front-lifted x r =
+        let long = length-take-le n xs (omega arith) in
+        radii-lifted (take n xs) (take n ys) (take n rs) (length-take-le n rs (omega arith) ∙ sym long)
+        (λ i l. not-not-iff (radiusOk (circle cs i .radius)) .0 (λ t. container-reads cs container .accepted .0 h .1 .1 .0 (any-at badRadius cs nowhere .1 (i, rw (length-shown (take n xs) (take n ys) (take n rs)) l, t))))
+
+    pub settled-accepted : (r : Rectangle) (xs′ ys′ : List Float) → SettledFront xs ys rs n container r xs′ ys′ → SettledAt xs ys rs n container (record { refusal = 0; container = r }) xs′ ys′
+    unfolding frontContained circleCap
+    settled-accepted r xs′ ys′ e =
+        let whole : frontContained n xs ys rs container ≡ settled container cs = rw (is-false (tooMany n) (not-too-many-iff n .1 room)) (container-answers cs container .on-acceptance h) in
+        record {
+          placed = ap placedOf e ∙ rw whole;
+          circles = λ z. ap (λ (c : Contained). c .circles) e ∙ rw whole;
+        }

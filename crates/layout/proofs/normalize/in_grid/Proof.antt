@@ -1,0 +1,54 @@
+-- `in_grid` meets its contract: the packing accepts the boxes, and the circles go with them.
+use native.Mathlib.Omega.{arith}
+use mathlib.Core.Path.{_≡_, ap, _∙_}
+use lib.Ieee.{Float}
+use Rattle.packing.specs.Sides.{sidesNumber}
+use borrow.Author.Needs.{needs}
+use Rattle.promises.proofs.PackedCircles.{boxes-length}
+use Rattle.layout.proofs.PackedClusters.{boxes-accepted, clusters-packed}
+use Rattle.layout.proofs.normalize.in_grid.Statement.{statement}
+use Rattle.layout.proofs.normalize.in_grid.Tie as tie
+
+boxed-front-requires : tie.Need-boxed-front-requires
+boxed-front-requires c κs = search needs
+
+pack-sides-requires : tie.Need-pack-sides-requires
+pack-sides-requires c κs = search needs
+
+shift-requires : tie.Need-shift-requires
+shift-requires c κs = let p = c .before .before .before .before .before .before .before .before .before .before .before .before .before .before .before .before .before .before .before .before .before .pre in (search needs, search needs, λ i h. let below = p .5 i h in omega (arith, p .4))
+
+shift-requires-2 : tie.Need-shift-requires-2
+shift-requires-2 c κs = let p = c .before .before .before .before .before .before .before .before .before .before .before .before .before .before .before .before .before .before .before .before .before .before .before .before .before .before .before .before .before .pre in (omega (arith, p .0, p .2), search needs, λ i h. let below = p .5 i h in omega (arith, p .4))
+
+same-length : tie.Need-same-length
+same-length c = search needs
+
+same-length-2 : tie.Need-same-length-2
+same-length-2 c = search needs
+
+returns : tie.Need-returns
+returns c =
+    let S = c .before .before .before .before .before .before .before .before .before .before .before .before .before .before .before .before .before .before .before .before .before .before .before .before .before .before .before .before .before .before .before .before in
+    let p = S .pre in
+    let a = S .args in
+    let b = c .before .before .before .before .before .before .before .before .before .before .before .before .before .before .before .before .before .before .before .before .before .boxed-front .ensures in
+    let packing = c .before .before .before .before .before .before .before .before .before .before .before .before .before .before .before .before .pack-sides .ensures in
+    let long = boxes-length (a .count) (a .numbers .now) _ in
+    let none = packing .0 ∙ ap (λ (q : Float). sidesNumber _ _ _ q) (b .1) ∙ (boxes-accepted (a .count) (a .numbers .now) (a .factor) (a .xs .now) (a .ys .now) (a .radii .now) (p .0) (p .2) (p .3) (p .4) (p .5) (p .7) long _ _ _ _ (b .0) (p .6)) in (
+      b .1,
+      clusters-packed (a .count) (a .numbers .now) (a .factor) (a .xs .now) (a .ys .now) (a .radii .now) (p .0) (p .2) (p .3) (p .4) (p .5) (p .7) long _ _ _ _ (b .0) _ _ _ _ _ _ _ none
+      (rw (b .1) at (packing .1 .0)) (rw (b .1) at (packing .1 .1)) (c .before .before .before .before .before .before .before .before .before .before .shift .ensures) (c .before .before .shift2 .ensures),
+    )
+
+pub in-grid-spec : {M : Type 1} → statement M
+in-grid-spec =
+    tie.close
+    (tie.spec
+    boxed-front-requires
+    pack-sides-requires
+    shift-requires
+    shift-requires-2
+    same-length
+    same-length-2
+    returns)
