@@ -82,9 +82,9 @@ front-number n xs ys rs = by-test (tooMany n) refl
 abbrev column : (List Circle → List Float) → ℕ → List Circle → List Float → List Float
 column f n cs zs = cond (tooMany n) zs (overwritten (f cs) zs)
 
-module _ (n : ℕ) (cs : List Circle) (zs : List Float) (long : tooMany n ≡ false → length cs ≡ n) where
-  pub split-grouping : countedGrouping n (front n (column xsOf n cs zs) (column ysOf n cs zs) (column radiiOf n cs zs)) ≡ countedGrouping n cs
-  split-grouping = counted-same n _ cs (λ h. rw h (front-shown n cs zs zs zs (long h)))
+pub split-grouping : (n : ℕ) (cs : List Circle) (xs ys rs : List Float) → (tooMany n ≡ false → length cs ≡ n)
+    → countedGrouping n (front n (column xsOf n cs xs) (column ysOf n cs ys) (column radiiOf n cs rs)) ≡ countedGrouping n cs
+split-grouping n cs xs ys rs long = counted-same n _ cs (λ h. rw h (front-shown n cs xs ys rs (long h)))
 
 pub whole-grouping : (cs : List Circle) → countedGrouping (length cs) cs ≡ plainGrouping cs
 unfolding countedGrouping plainGrouping circlesRefusal

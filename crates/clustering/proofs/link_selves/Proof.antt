@@ -36,8 +36,8 @@ loop-again c = (omega arith, diagonal-step _ _ (c .loop-test .taken) (c .before 
 returns : tie.Need-returns Inv-loop μ-loop
 returns c = diagonal-end _ _ (c .loop-test .left) (c .before .loop .inv .1)
 
-pub link_selves-spec : {M : Type 1} → statement M
-link_selves-spec =
+pub link-selves-spec : {M : Type 1} → statement M
+link-selves-spec =
     tie.close
     (tie.spec
     Inv-loop
