@@ -50,7 +50,13 @@ pub fn split_array(
     0
 }
 
-fn split_front(circles: [Circle; MAX_CIRCLES], n: usize, xs: &mut [f64], ys: &mut [f64], radii: &mut [f64])
+fn split_front(
+    circles: [Circle; MAX_CIRCLES],
+    n: usize,
+    xs: &mut [f64],
+    ys: &mut [f64],
+    radii: &mut [f64],
+)
     requires { ⌜ (n ≤ maxCircles) × (length (now xs) ≡ maxCircles) × (length (now ys) ≡ maxCircles) × (length (now radii) ≡ maxCircles) ⌝ }
     ensures { λ _. ⌜ (now (xs .exit) ≡ overwritten (xsOf (take n circles)) (now (xs .entry))) × (now (ys .exit) ≡ overwritten (ysOf (take n circles)) (now (ys .entry))) × (now (radii .exit) ≡ overwritten (radiiOf (take n circles)) (now (radii .entry))) ⌝ }
 {
