@@ -77,6 +77,10 @@ module _ (n : ℕ) (xs ys rs : List Float) (container : Rectangle) where
           let is : number ≡ containerRefusal cs container = e ∙ rw t in
           rw (t, container-answers cs container .at-refusal (λ z. h (is ∙ z)), is)
 
+  pub front-settled : (r : Rectangle) (xs₁ ys₁ : List Float) → length xs₁ ≡ n → length ys₁ ≡ n → settledAs r (circlesOf xs₁ ys₁ (take n rs)) ≡ settled container cs
+      → SettledFront xs ys rs n container r (xs₁ ++ drop (n - 0) xs) (ys₁ ++ drop (n - 0) ys)
+  front-settled r xs₁ ys₁ long-x long-y e = rw (take-at xs₁ (drop (n - 0) xs) n long-x, take-at ys₁ (drop (n - 0) ys) n long-y) e
+
   -- ---- an acceptance
   module _ (room : n ≤ maxCircles) (h : containerRefusal cs container ≡ 0) where
     pub front-lifted : length xs ≡ maxCircles → length rs ≡ maxCircles → Lifted (take n rs)

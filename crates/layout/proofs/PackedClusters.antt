@@ -112,7 +112,18 @@ module _ (count : ℕ) (numbers : List ℕ) (factor : Float) (xs ys rs : List Fl
         let yes = eq-eqb r 0 none in
         let sx : new-xs′ ≡ overwritten (centreXs (packed golden (sided count widths heights) pad)) new-xs = nx ∙ rw yes in
         let sy : new-ys′ ≡ overwritten (centreYs (packed golden (sided count widths heights) pad)) new-ys = ny ∙ rw yes in
-        let same-x : xs′ ≡ shiftedBy numbers (centreXs rects) (centreXs new) xs = x ∙ shifted-same count numbers xs _ _ _ _ all numbered (at-front count across (centreXs rects) (l .across)) (λ a h. ap (λ (z : List Float). at z a) sx ∙ front-of centreXs (length-centre-xs new) new-xs a h) in
-        let same-y : ys′ ≡ shiftedBy numbers (centreYs rects) (centreYs new) ys = y ∙ shifted-same count numbers ys _ _ _ _ (all ∙ sym even) numbered (at-front count up (centreYs rects) (l .up)) (λ a h. ap (λ (z : List Float). at z a) sy ∙ front-of centreYs (length-centre-ys new) new-ys a h) in
+        let same-x : xs′ ≡ shiftedBy numbers (centreXs rects) (centreXs new) xs = x ∙ shifted-same count numbers xs across new-xs′ (centreXs rects) (centreXs new) all numbered (at-front count across (centreXs rects) (l .across)) (λ a h. ap (λ (z : List Float). at z a) sx ∙ front-of centreXs (length-centre-xs new) new-xs a h) in
+        let same-y : ys′ ≡ shiftedBy numbers (centreYs rects) (centreYs new) ys = y ∙ shifted-same count numbers ys up new-ys′ (centreYs rects) (centreYs new) (all ∙ sym even) numbered (at-front count up (centreYs rects) (l .up)) (λ a h. ap (λ (z : List Float). at z a) sy ∙ front-of centreYs (length-centre-ys new) new-ys a h) in
         rw (same-x, same-y)
         (shift-shown numbers rects new xs ys rs even all (length-new ∙ sym long) (rw long numbered) lifted ∙ many-move golden numbers rects pad cs (rw long many))
+
+    -- the same, told by the calls: the padding asked for, the packing's number, what it wrote
+    pub packed-by : packRefusal rects pad ≡ 0 → (p : Float) (r : ℕ) (new-xs new-ys new-xs′ new-ys′ xs′ ys′ : List Float) → p ≡ pad → r ≡ sidesNumber count widths heights p
+        → new-xs′ ≡ cond (eqb r 0) (overwritten (centreXs (packed golden (sided count widths heights) p)) new-xs) new-xs
+        → new-ys′ ≡ cond (eqb r 0) (overwritten (centreYs (packed golden (sided count widths heights) p)) new-ys) new-ys
+        → xs′ ≡ shiftedBy numbers across new-xs′ xs → ys′ ≡ shiftedBy numbers up new-ys′ ys
+        → circlesOf xs′ ys′ rs ≡ packClusters golden numbers rects pad cs
+    packed-by ok p r new-xs new-ys new-xs′ new-ys′ xs′ ys′ same number nx ny x y =
+        clusters-packed r new-xs new-ys new-xs′ new-ys′ xs′ ys′ (number ∙ ap (λ (q : Float). sidesNumber count widths heights q) same ∙ boxes-accepted ok)
+        (nx ∙ ap (λ (q : Float). cond (eqb r 0) (overwritten (centreXs (packed golden (sided count widths heights) q)) new-xs) new-xs) same)
+        (ny ∙ ap (λ (q : Float). cond (eqb r 0) (overwritten (centreYs (packed golden (sided count widths heights) q)) new-ys) new-ys) same) x y

@@ -1,67 +1,61 @@
-use Prim.Native.Nat.{ℕ, suc, _≤_, _<_, _-_, _+_}
+-- `in_front` meets its contract: the steps on the first n circles.
+use native.Mathlib.Nat.{sub-zero}
 use native.Mathlib.Omega.{arith}
+use mathlib.Core.Path.{_≡_, sym, _∙_}
 use borrow.Author.Needs.{needs}
-use mathlib.Core.Path.{_≡_, refl, sym, ap, _∙_}
-use mathlib.Core.Bool.{Bool, true, false, not, _&&_, _||_, cond}
-use lib.ListN.{length, getD, set}
-use borrow.Author.Needs.{needs}
+use Rattle.layout.proofs.PackedClusters.{part-length}
+use Rattle.layout.proofs.FrontContained.{front-settled}
 use Rattle.layout.proofs.container.in_front.Statement.{statement}
 use Rattle.layout.proofs.container.in_front.Tie as tie
-use Rattle.layout.proofs.container.in_front.Reads as reads
-use Rattle.layout.proofs.container.in_front.Lts as lts
-use Rattle.layout.proofs.settling.settled.Reads as settled-reads
 
--- src/container.rt:68:13
 sub-settled : tie.Need-sub-settled
 sub-settled c = search needs
 
--- src/container.rt:68:13
 part-settled-start : tie.Need-part-settled-start
 part-settled-start c = search needs
 
--- src/container.rt:68:13
 part-settled-end : tie.Need-part-settled-end
 part-settled-end c = search needs
 
--- src/container.rt:68:28
 sub-settled-2 : tie.Need-sub-settled-2
 sub-settled-2 c = search needs
 
--- src/container.rt:68:28
 part-settled-start-2 : tie.Need-part-settled-start-2
 part-settled-start-2 c = search needs
 
--- src/container.rt:68:28
 part-settled-end-2 : tie.Need-part-settled-end-2
 part-settled-end-2 c = search needs
 
--- src/container.rt:68:43
 sub-settled-3 : tie.Need-sub-settled-3
 sub-settled-3 c = search needs
 
--- src/container.rt:68:43
 part-settled-start-3 : tie.Need-part-settled-start-3
 part-settled-start-3 c = search needs
 
--- src/container.rt:68:43
 part-settled-end-3 : tie.Need-part-settled-end-3
 part-settled-end-3 c = search needs
 
--- src/container.rt:68:5
 settled-requires : tie.Need-settled-requires
-settled-requires c κs = ?
+settled-requires c κs =
+    let S = c .before .before .before .before .before .before in
+    let p = S .pre in
+    let a = S .args in
+    let long = part-length (a .n) _ (a .xs .now) (p .1) (p .0) in
+    (part-length (a .n) _ (a .ys .now) (p .2) (p .0) ∙ sym long, part-length (a .n) _ (a .radii .now) (p .3) (p .0) ∙ sym long, rw sub-zero (p .4))
 
--- src/container.rt:58:1
 same-length : tie.Need-same-length
 same-length c = search needs
 
--- src/container.rt:58:1
 same-length-2 : tie.Need-same-length-2
 same-length-2 c = search needs
 
--- src/container.rt:58:1
 returns : tie.Need-returns
-returns c = ?
+returns c =
+    let S = c .before .before .before .before .before .before .before .before .before .before .before in
+    let p = S .pre in
+    let a = S .args in
+    let r = c .before .before .before .before .settled in
+    front-settled (a .n) (a .xs .now) (a .ys .now) (a .radii .now) (a .container) (r .result) _ _ (omega (arith, part-length (a .n) _ (a .xs .now) (p .1) (p .0), r .kept)) (omega (arith, part-length (a .n) _ (a .ys .now) (p .2) (p .0), r .kept)) (rw sub-zero at (r .ensures))
 
 pub in-front-spec : {M : Type 1} → statement M
 in-front-spec =

@@ -1,42 +1,37 @@
-use Prim.Native.Nat.{ℕ, suc, _≤_, _<_, _-_, _+_}
-use native.Mathlib.Omega.{arith}
+-- `settled_at` meets its contract: refused and nothing written, or the first n circles in their container.
+use mathlib.Core.Path.{_≡_, sym, _∙_}
+use mathlib.Core.List.{[], _∷_}
 use borrow.Author.Needs.{needs}
-use mathlib.Core.Path.{_≡_, refl, sym, ap, _∙_}
-use mathlib.Core.Bool.{Bool, true, false, not, _&&_, _||_, cond}
-use lib.ListN.{length, getD, set}
-use borrow.Author.Needs.{needs}
+use Rattle.intake.proofs.CauseWords.{joined, number-says}
+use Rattle.layout.proofs.FrontContained.{container-number, number-none, settled-refused, front-lifted, settled-accepted}
 use Rattle.layout.proofs.container.settled_at.Statement.{statement}
 use Rattle.layout.proofs.container.settled_at.Tie as tie
-use Rattle.layout.proofs.container.settled_at.Reads as reads
-use Rattle.layout.proofs.container.settled_at.Lts as lts
-use Rattle.intake.proofs.causes.number_of.Reads as number-of-reads
-use Rattle.intake.proofs.causes.of_circles.Reads as of-circles-reads
-use Rattle.intake.proofs.causes.of_container.Reads as of-container-reads
-use Rattle.layout.proofs.container.in_front.Reads as in-front-reads
 
--- src/container.rt:47:29
 of-circles-requires : tie.Need-of-circles-requires
 of-circles-requires c κs = search needs
 
--- src/container.rt:47:60
 of-container-requires : tie.Need-of-container-requires
 of-container-requires c κs = search needs
 
--- src/container.rt:47:9
 number-of-requires : tie.Need-number-of-requires
 number-of-requires c κs = search needs
 
--- src/container.rt:49:9
 returns : tie.Need-returns
-returns c = ?
+returns c =
+    let a = c .before .before .before .before .before .before .args in
+    settled-refused (a .n) (a .xs .now) (a .ys .now) (a .radii .now) (a .container) _ (c .before .number-of .ensures ∙ number-says _ _ (joined _ _ ((1, _) ∷ (3, _) ∷ (4, _) ∷ []) ((3, _) ∷ (7, _) ∷ []) (c .before .before .before .of-circles .ensures) (c .before .before .of-container .ensures)) ∙ container-number (a .n) (a .xs .now) (a .ys .now) (a .radii .now) (a .container)) (c .if1 .taken)
 
--- src/container.rt:51:9
 in-front-requires : tie.Need-in-front-requires
-in-front-requires c κs = ?
+in-front-requires c κs =
+    let a = c .before .before .before .before .before .before .before .before .before .args in
+    let none = number-none (a .n) (a .xs .now) (a .ys .now) (a .radii .now) (a .container) (sym (c .before .before .before .before .number-of .ensures ∙ number-says _ _ (joined _ _ ((1, _) ∷ (3, _) ∷ (4, _) ∷ []) ((3, _) ∷ (7, _) ∷ []) (c .before .before .before .before .before .before .of-circles .ensures) (c .before .before .before .before .before .of-container .ensures)) ∙ container-number (a .n) (a .xs .now) (a .ys .now) (a .radii .now) (a .container)) ∙ c .before .before .before .if1 .left) in
+    (none .0, search needs, search needs, search needs, front-lifted (a .n) (a .xs .now) (a .ys .now) (a .radii .now) (a .container) (none .0) (none .1) (search needs) (search needs))
 
--- src/container.rt:38:1
 returns-2 : tie.Need-returns-2
-returns-2 c = ?
+returns-2 c =
+    let a = c .before .before .before .before .before .before .before .before .before .before .args in
+    let none = number-none (a .n) (a .xs .now) (a .ys .now) (a .radii .now) (a .container) (sym (c .before .before .before .before .before .number-of .ensures ∙ number-says _ _ (joined _ _ ((1, _) ∷ (3, _) ∷ (4, _) ∷ []) ((3, _) ∷ (7, _) ∷ []) (c .before .before .before .before .before .before .before .of-circles .ensures) (c .before .before .before .before .before .before .of-container .ensures)) ∙ container-number (a .n) (a .xs .now) (a .ys .now) (a .radii .now) (a .container)) ∙ c .before .before .before .before .if1 .left) in
+    settled-accepted (a .n) (a .xs .now) (a .ys .now) (a .radii .now) (a .container) (none .0) (none .1) (c .in-front .result) _ _ (c .in-front .ensures)
 
 pub settled-at-spec : {M : Type 1} → statement M
 settled-at-spec =

@@ -1,11 +1,9 @@
 -- `in_grid` meets its contract: the packing accepts the boxes, and the circles go with them.
 use native.Mathlib.Omega.{arith}
-use mathlib.Core.Path.{_≡_, ap, _∙_}
-use lib.Ieee.{Float}
-use Rattle.packing.specs.Sides.{sidesNumber}
+use mathlib.Core.Path.{_≡_}
 use borrow.Author.Needs.{needs}
 use Rattle.promises.proofs.PackedCircles.{boxes-length}
-use Rattle.layout.proofs.PackedClusters.{boxes-accepted, clusters-packed}
+use Rattle.layout.proofs.PackedClusters.{packed-by}
 use Rattle.layout.proofs.normalize.in_grid.Statement.{statement}
 use Rattle.layout.proofs.normalize.in_grid.Tie as tie
 
@@ -35,10 +33,10 @@ returns c =
     let b = c .before .before .before .before .before .before .before .before .before .before .before .before .before .before .before .before .before .before .before .before .before .boxed-front .ensures in
     let packing = c .before .before .before .before .before .before .before .before .before .before .before .before .before .before .before .before .pack-sides .ensures in
     let long = boxes-length (a .count) (a .numbers .now) _ in
-    let none = packing .0 ∙ ap (λ (q : Float). sidesNumber _ _ _ q) (b .1) ∙ (boxes-accepted (a .count) (a .numbers .now) (a .factor) (a .xs .now) (a .ys .now) (a .radii .now) (p .0) (p .2) (p .3) (p .4) (p .5) (p .7) long _ _ _ _ (b .0) (p .6)) in (
+    (
       b .1,
-      clusters-packed (a .count) (a .numbers .now) (a .factor) (a .xs .now) (a .ys .now) (a .radii .now) (p .0) (p .2) (p .3) (p .4) (p .5) (p .7) long _ _ _ _ (b .0) _ _ _ _ _ _ _ none
-      (rw (b .1) at (packing .1 .0)) (rw (b .1) at (packing .1 .1)) (c .before .before .before .before .before .before .before .before .before .before .shift .ensures) (c .before .before .shift2 .ensures),
+      packed-by (a .count) (a .numbers .now) (a .factor) (a .xs .now) (a .ys .now) (a .radii .now) (p .0) (p .2) (p .3) (p .4) (p .5) (p .7) long _ _ _ _ (b .0) (p .6) _ _ _ _ _ _ _ _ (b .1) (packing .0)
+      (packing .1 .0) (packing .1 .1) (c .before .before .before .before .before .before .before .before .before .before .shift .ensures) (c .before .before .shift2 .ensures),
     )
 
 pub in-grid-spec : {M : Type 1} → statement M
