@@ -10,6 +10,8 @@ pub mod Gauged
 pub mod Settled
 pub mod ClusterBoxes
 pub mod Recentred
+pub mod Answered
+pub mod RunCalls
 pub mod JoinCall
 pub mod PackedClusters
 pub mod WholeSteps

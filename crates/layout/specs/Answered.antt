@@ -4,18 +4,13 @@ use mathlib.Core.Path.{_≡_}
 use mathlib.Core.Bool.{cond}
 use mathlib.Core.List.{List}
 use lib.Ieee.{Float}
-use lib.ListN.{take}
 use Rattle.shapes.specs.declared.geometry.shapes.circle.Circle.{Circle}
 use Rattle.scope.specs.Refusals.{tooMany}
-use Rattle.intake.specs.Columns.{circlesOf}
-
--- the circles that the first n numbers show
-abbrev pub firstShown : ℕ → List Float → List Float → List Float → List Circle
-firstShown n xs ys rs = circlesOf (take n xs) (take n ys) (take n rs)
+use Rattle.intake.specs.CauseWords.{front}
 
 -- an answer of the first n, unless there are too many
 abbrev pub unlessMany : {X : Type 0} → ℕ → X → X → X
 unlessMany n bad good = cond (tooMany n) bad good
 
 unfoldable pub Answered : (List Circle → ℕ) → (List Circle → List Circle) → List Float → List Float → List Float → ℕ → ℕ → List Float → List Float → Type 0
-Answered number after xs ys rs n refusal xs′ ys′ = (refusal ≡ unlessMany n 1 (number (firstShown n xs ys rs))) × (refusal ≡ 0 → firstShown n xs′ ys′ rs ≡ after (firstShown n xs ys rs))
+Answered number after xs ys rs n refusal xs′ ys′ = (refusal ≡ unlessMany n 1 (number (front n xs ys rs))) × (refusal ≡ 0 → front n xs′ ys′ rs ≡ after (front n xs ys rs))

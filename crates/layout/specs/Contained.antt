@@ -4,6 +4,7 @@ use mathlib.Core.Path.{_≡_}
 use mathlib.Core.Bool.{cond}
 use mathlib.Core.List.{List}
 use lib.Ieee.{Float}
+use Rattle.shapes.specs.declared.geometry.shapes.circle.Circle.{Circle}
 use Rattle.shapes.specs.declared.geometry.shapes.rectangle.Rectangle.{Rectangle}
 use Rattle.scope.specs.Refusals.{tooMany, containerRefusal}
 use Rattle.scope.specs.Container.{Contained, contained, settled}
@@ -30,3 +31,7 @@ pub record SettledAt (xs ys rs : List Float) (n : ℕ) (container : Rectangle) (
 -- the same of accepted circles
 abbrev pub SettledFront : List Float → List Float → List Float → ℕ → Rectangle → Rectangle → List Float → List Float → Type 0
 SettledFront xs ys rs n container r xs′ ys′ = settledAs r (front n xs′ ys′ rs) ≡ settled container (front n xs ys rs)
+
+-- the call's answer for a run, and the run after it
+abbrev pub Settles : List Circle → Rectangle → Placed → List Circle → Type 0
+Settles cs container r cs′ = (r ≡ placedOf (contained cs container)) × (cs′ ≡ contained cs container .circles)

@@ -9,11 +9,16 @@ ghost use Rattle.intake.specs.CauseWords.{front};
 ghost use Rattle.layout.specs.Answers.{inContainer, placedOf};
 ghost use Rattle.layout.specs.FirstLayout.{firstContained};
 ghost use Rattle.layout.specs.Contained.{SettledAt, SettledFront};
+use crate::lent::join;
+use crate::lent::recentred;
+use crate::lent::written;
 use crate::settling::settled;
 use intake::causes::number_of;
 use intake::causes::of_circles;
 use intake::causes::of_container;
 use intake::limits::MAX_CIRCLES;
+use intake::runs::split;
+use intake::runs::split_array;
 
 use shapes::geometry::primitives::point::Point;
 use shapes::geometry::shapes::circle::Circle;
@@ -32,6 +37,43 @@ pub struct InContainer {
 pub struct Placed {
     pub refusal: u8,
     pub container: Rectangle,
+}
+
+// Moves the container to the origin, the circles along, and then the circles to its middle, unless they reach past its edge.
+// Rewrites the centres of a lent run. A refused run is not written to.
+// Refused: too many circles (1), a centre (3), a radius (4), a side (7).
+pub fn normalize_layout_with_container(circles: &mut [Circle], container: Rectangle) -> Placed
+    ensures { λ r. ⌜ (r ≡ placedOf (contained (now (circles .entry)) container)) × (now (circles .exit) ≡ contained (now (circles .entry)) container .circles) ⌝ }
+{
+    let mut xs = [0.0; MAX_CIRCLES];
+    let mut ys = [0.0; MAX_CIRCLES];
+    let mut radii = [0.0; MAX_CIRCLES];
+    let n = circles.len();
+    split(circles, &mut xs, &mut ys, &mut radii);
+    let r = settled_at(&mut xs, &mut ys, &radii, n, container);
+    join(circles, &xs, &ys, written(r.refusal, n));
+    r
+}
+
+// The same of the first n circles of an array. The others are not looked at, and stay.
+pub fn normalize_layout_with_container_by_value(
+    circles: [Circle; MAX_CIRCLES],
+    n: usize,
+    container: Rectangle,
+) -> InContainer
+    ensures { λ r. ⌜ inContainer r ≡ firstContained n circles container ⌝ }
+{
+    let mut xs = [0.0; MAX_CIRCLES];
+    let mut ys = [0.0; MAX_CIRCLES];
+    let mut radii = [0.0; MAX_CIRCLES];
+    split_array(circles, n, &mut xs, &mut ys, &mut radii);
+    let placed = settled_at(&mut xs, &mut ys, &radii, n, container);
+    let at = placed.container;
+    InContainer {
+        refusal: placed.refusal,
+        container: at,
+        circles: recentred(circles, &xs, &ys, written(placed.refusal, n)),
+    }
 }
 
 // Of circles whose numbers stand in the front of three arrays.

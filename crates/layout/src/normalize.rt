@@ -25,6 +25,9 @@ use crate::boxes::cluster_boxes;
 use crate::boxes::padding_of;
 use crate::boxes::shift;
 use crate::gauge::gauged_clusters;
+use crate::lent::join;
+use crate::lent::recentred;
+use crate::lent::written;
 use crate::offset::offset_contained_children;
 use crate::offset::tolerance;
 use grouping::clustering::find_clusters_from_exclusive_regions;
@@ -33,6 +36,8 @@ use intake::causes::of_circles;
 use intake::causes::of_factor;
 use intake::causes::of_regions;
 use intake::limits::MAX_CIRCLES;
+use intake::runs::split;
+use intake::runs::split_array;
 
 use packing::pack_sides;
 use shapes::geometry::primitives::point::Point;
@@ -53,6 +58,48 @@ pub struct Result {
 pub struct Layout {
     pub result: Result,
     pub circles: [Circle; MAX_CIRCLES],
+}
+
+// Rewrites the centres of a lent run. A refused run is not written to.
+// Refused: too many circles (1), lists of unequal length (13), too many regions (2), a centre (3), a radius (4), masks that do not rise (5), the factor (6).
+pub fn normalize_layout_with_clusters(
+    circles: &mut [Circle],
+    factor: f64,
+    masks: &[u64],
+    areas: &[f64],
+) -> Result
+    ensures { λ r. ⌜ (resultOf r ≡ layout (now (circles .entry)) factor (now (masks .entry)) (now (areas .entry)) .result) × (now (circles .exit) ≡ layout (now (circles .entry)) factor (now (masks .entry)) (now (areas .entry)) .circles) × (r .refusal ≡ 0 → Promises bound (now (circles .entry)) (regions (now (masks .entry)) (now (areas .entry))) (resultOf r) (now (circles .exit))) ⌝ }
+{
+    let mut xs = [0.0; MAX_CIRCLES];
+    let mut ys = [0.0; MAX_CIRCLES];
+    let mut radii = [0.0; MAX_CIRCLES];
+    let n = circles.len();
+    split(circles, &mut xs, &mut ys, &mut radii);
+    let r = laid(&mut xs, &mut ys, &radii, n, factor, masks, areas);
+    join(circles, &xs, &ys, written(r.refusal, n));
+    r
+}
+
+// The same of the first n circles of an array. The others are not looked at, and stay.
+pub fn normalize_layout_with_clusters_by_value(
+    circles: [Circle; MAX_CIRCLES],
+    n: usize,
+    factor: f64,
+    masks: &[u64],
+    areas: &[f64],
+) -> Layout
+    ensures answer { λ r. ⌜ laidOut r ≡ firstLayout n circles factor (now (masks .entry)) (now (areas .entry)) ⌝ }
+    ensures promises { λ r. ⌜ (r .result .refusal ≡ 0 → Promises bound (take n circles) (regions (now (masks .entry)) (now (areas .entry))) (resultOf (r .result)) (take n (r .circles))) ⌝ }
+{
+    let mut xs = [0.0; MAX_CIRCLES];
+    let mut ys = [0.0; MAX_CIRCLES];
+    let mut radii = [0.0; MAX_CIRCLES];
+    split_array(circles, n, &mut xs, &mut ys, &mut radii);
+    let result = laid(&mut xs, &mut ys, &radii, n, factor, masks, areas);
+    Layout {
+        result,
+        circles: recentred(circles, &xs, &ys, written(result.refusal, n)),
+    }
 }
 
 // The layout of circles whose numbers stand in the front of three arrays.

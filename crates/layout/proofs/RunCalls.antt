@@ -1,0 +1,133 @@
+-- The cores' answers for the arrays of a run are the layout of the run, and the run in its container.
+use Prim.Native.Nat.{ℕ, _≤_}
+use native.Mathlib.Omega.{arith}
+use mathlib.Core.Path.{_≡_, refl, sym, ap, subst, _∙_}
+use mathlib.Core.Bool.{Bool, true, false, cond}
+use mathlib.Core.List.{List, []}
+use lib.Ieee.{Float}
+use lib.ListN.{length}
+use Rattle.shapes.specs.declared.geometry.shapes.circle.Circle.{Circle}
+use Rattle.shapes.specs.declared.geometry.shapes.rectangle.Rectangle.{Rectangle}
+use Rattle.scope.specs.Links.{regions}
+use Rattle.scope.specs.Refusals.{tooMany, frontToBack, layoutRefusal, containerRefusal}
+use Rattle.scope.specs.Layout.{Layout, Result as Outcome, refusedLayout, layout}
+use Rattle.scope.specs.Container.{Contained, contained}
+use Rattle.scope.specs.Promises.{Promises}
+use Rattle.promises.specs.Demand3.{bound}
+use Rattle.promises.proofs.EntryPoints.{layout-reads, container-reads}
+use Rattle.promises.proofs.AfterRefusal.{layout-answers, container-answers}
+use Rattle.intake.specs.Limits.{maxCircles}
+use Rattle.intake.specs.CauseWords.{front}
+use Rattle.intake.specs.Columns.{xsOf, ysOf, radiiOf}
+use Rattle.intake.proofs.Splitting.{splitOf}
+use Rattle.layout.specs.Answered.{unlessMany, Answered}
+use Rattle.layout.specs.Answers.{resultOf, placedOf}
+use Rattle.layout.specs.Contained.{frontContained, SettledAt, Settles}
+use Rattle.layout.specs.Laid.{frontLayout, Laid, Lays}
+use Rattle.layout.specs.Recentred.{recentred, writtenOf}
+use Rattle.layout.specs.declared.normalize.Result.{Result}
+use Rattle.layout.specs.declared.container.Placed.{Placed}
+use Rattle.layout.proofs.Answered.{Answering, of-run, run-back, not-many, answered-fits, answered-shown, answered-run}
+
+-- ---- a choice that is read field by field
+chosen : {A B : Type 0} (f : A → B) (b : Bool) (x y : A) → f (cond b x y) ≡ cond b (f x) (f y)
+chosen f true x y = refl
+chosen f false x y = refl
+
+-- a number 0 is not that of too many
+few-accepted : (n k r : ℕ) → r ≡ unlessMany n 1 k → r ≡ 0 → tooMany n ≡ false
+few-accepted n k r e z = by-count (tooMany n) refl
+  where
+    by-count : (b : Bool) → tooMany n ≡ b → tooMany n ≡ false
+    by-count true h = let one-is-none : _≡_ {A = ℕ} 1 0 = sym (rw h at e) ∙ z in absurd (omega arith)
+    by-count false h = h
+
+is-refusal : (k : ℕ) → k ≡ 1 → k ≡ 0 → ⊥
+is-refusal k one none = omega arith
+
+-- ---- document 01's own answers are of this kind
+layout-answering : (factor : Float) (masks : List ℕ) (areas : List Float) → Answering (λ cs. layoutRefusal cs factor masks areas) (λ cs. layout cs factor masks areas .circles)
+unfolding frontToBack refusedLayout
+layout-answering factor masks areas = record {
+  many = λ cs h. rw (layout-reads cs factor masks areas .runs, h);
+  stays = λ cs h. rw (layout-answers cs factor masks areas .at-refusal h);
+}
+
+container-answering : (container : Rectangle) → Answering (λ cs. containerRefusal cs container) (λ cs. contained cs container .circles)
+unfolding frontToBack
+container-answering container = record {
+  many = λ cs h. rw (container-reads cs container .runs, h);
+  stays = λ cs h. rw (container-answers cs container .at-refusal h);
+}
+
+many-result : (factor : Float) (masks : List ℕ) (areas : List Float) (cs : List Circle) → tooMany (length cs) ≡ true → layout cs factor masks areas .result ≡ refusedLayout 1 [] .result
+unfolding refusedLayout
+many-result factor masks areas cs h =
+    let one = layout-answering factor masks areas .many cs h in
+    rw (layout-answers cs factor masks areas .at-refusal (is-refusal _ one), one)
+
+many-placed : (container : Rectangle) (cs : List Circle) → tooMany (length cs) ≡ true → placedOf (contained cs container) ≡ record { refusal = 1; container = container }
+many-placed container cs h =
+    let one = container-answering container .many cs h in
+    rw (container-answers cs container .at-refusal (is-refusal _ one), one)
+
+-- ---- a run and the arrays that it was split into
+module _ (cs : List Circle) (zs : List Float) where
+  abbrev xs : List Float
+  xs = splitOf xsOf cs zs
+
+  abbrev ys : List Float
+  ys = splitOf ysOf cs zs
+
+  abbrev rs : List Float
+  rs = splitOf radiiOf cs zs
+
+  abbrev n : ℕ
+  n = length cs
+
+  -- ---- the layout
+  module _ (factor : Float) (masks : List ℕ) (areas : List Float) (r : Result) (xs′ ys′ : List Float) (e : Laid xs ys rs n factor masks areas r xs′ ys′) where
+    result-said : resultOf r ≡ unlessMany n (refusedLayout 1 [] .result) (layout (front n xs ys rs) factor masks areas .result)
+    unfolding frontLayout
+    result-said = e .result ∙ chosen (λ (l : Layout). l .result) (tooMany n) (refusedLayout 1 []) (layout (front n xs ys rs) factor masks areas)
+
+    laid-answered : Answered (λ l. layoutRefusal l factor masks areas) (λ l. layout l factor masks areas .circles) xs ys rs n (r .refusal) xs′ ys′
+    unfolding Answered frontLayout refusedLayout
+    laid-answered =
+        let number : r .refusal ≡ unlessMany n 1 (layoutRefusal (front n xs ys rs) factor masks areas) =
+              ap (λ (o : Outcome). o .refusal) result-said ∙ chosen (λ (o : Outcome). o .refusal) (tooMany n) (refusedLayout 1 [] .result) (layout (front n xs ys rs) factor masks areas .result)
+              ∙ ap (λ (k : ℕ). cond (tooMany n) 1 k) (layout-answers (front n xs ys rs) factor masks areas .says) in
+        (number, λ z. e .circles z ∙ rw (few-accepted n _ (r .refusal) number z))
+
+    pub laid-fits : (writtenOf (r .refusal) n ≤ n) × (writtenOf (r .refusal) n ≤ maxCircles)
+    laid-fits = answered-fits cs zs (layout-answering factor masks areas) (r .refusal) xs′ ys′ laid-answered
+
+    pub laid-lays : length xs′ ≡ maxCircles → length ys′ ≡ maxCircles → Lays cs factor masks areas r (recentred (writtenOf (r .refusal) n) xs′ ys′ cs)
+    laid-lays long-x long-y =
+        let by = layout-answering factor masks areas in
+        (of-run cs (front n xs ys rs) (λ l. layout l factor masks areas .result) (refusedLayout 1 [] .result) (resultOf r) (run-back cs zs) (many-result factor masks areas cs) result-said,
+        answered-run cs zs by (r .refusal) xs′ ys′ laid-answered long-x long-y,
+        λ z. subst (λ (l : List Circle). Promises bound l (regions masks areas) (resultOf r) (recentred (writtenOf (r .refusal) n) xs′ ys′ cs)) (run-back cs zs (not-many cs zs by (r .refusal) xs′ ys′ laid-answered z)) (rw (answered-shown cs zs by (r .refusal) xs′ ys′ laid-answered z long-x long-y) (e .promises z)))
+
+  -- ---- the container
+  module _ (container : Rectangle) (r : Placed) (xs′ ys′ : List Float) (e : SettledAt xs ys rs n container r xs′ ys′) where
+    abbrev many : Placed
+    many = record { refusal = 1; container = container }
+
+    placed-said : r ≡ unlessMany n many (placedOf (contained (front n xs ys rs) container))
+    unfolding frontContained
+    placed-said = e .placed ∙ chosen placedOf (tooMany n) (record { refusal = 1; container = container; circles = front n xs ys rs }) (contained (front n xs ys rs) container)
+
+    settled-answered : Answered (λ l. containerRefusal l container) (λ l. contained l container .circles) xs ys rs n (r .refusal) xs′ ys′
+    unfolding Answered frontContained
+    settled-answered =
+        let number : r .refusal ≡ unlessMany n 1 (containerRefusal (front n xs ys rs) container) =
+              ap (λ (o : Placed). o .refusal) placed-said ∙ chosen (λ (o : Placed). o .refusal) (tooMany n) many (placedOf (contained (front n xs ys rs) container))
+              ∙ ap (λ (k : ℕ). cond (tooMany n) 1 k) (container-answers (front n xs ys rs) container .says) in
+        (number, λ z. e .circles z ∙ rw (few-accepted n _ (r .refusal) number z))
+
+    pub settled-fits : (writtenOf (r .refusal) n ≤ n) × (writtenOf (r .refusal) n ≤ maxCircles)
+    settled-fits = answered-fits cs zs (container-answering container) (r .refusal) xs′ ys′ settled-answered
+
+    pub settled-settles : length xs′ ≡ maxCircles → length ys′ ≡ maxCircles → Settles cs container r (recentred (writtenOf (r .refusal) n) xs′ ys′ cs)
+    settled-settles long-x long-y = (of-run cs (front n xs ys rs) (λ l. placedOf (contained l container)) many r (run-back cs zs) (many-placed container cs) placed-said, answered-run cs zs (container-answering container) (r .refusal) xs′ ys′ settled-answered long-x long-y)
