@@ -12,6 +12,7 @@ pub mod ClusterBoxes
 pub mod Recentred
 pub mod Answered
 pub mod RunCalls
+pub mod ArrayCalls
 pub mod JoinCall
 pub mod PackedClusters
 pub mod WholeSteps
