@@ -73,17 +73,16 @@ module _ (cs : List Circle) (zs : List Float) where
     ]
 
     -- after an acceptance they are the circles that the core's lists show
-    pub answered-shown : r ≡ 0 → length xs′ ≡ maxCircles → length ys′ ≡ maxCircles → recentred (writtenOf r n) xs′ ys′ cs ≡ front n xs′ ys′ (splitOf radiiOf cs zs)
-    unfolding circleCap
-    answered-shown z long-x long-y =
-        let room = few n (not-many z) in
+    pub answered-shown : r ≡ 0 → recentred (writtenOf r n) xs′ ys′ cs ≡ front n xs′ ys′ (splitOf radiiOf cs zs)
+    unfolding Answered
+    answered-shown z =
         let radii : take n (splitOf radiiOf cs zs) ≡ radiiOf cs = column-back radiiOf cs zs (length-radii cs) (not-many z) in
-        rw (written-all r n z, recentred-all n xs′ ys′ cs refl (omega arith) (omega arith)) (ap (circlesOf (take n xs′) (take n ys′)) (sym radii))
+        rw (written-all r n z, recentred-all n xs′ ys′ cs refl (answered .2 z)) (ap (circlesOf (take n xs′) (take n ys′)) (sym radii))
 
     -- and what stands there then are the answer's circles
-    pub answered-run : length xs′ ≡ maxCircles → length ys′ ≡ maxCircles → recentred (writtenOf r n) xs′ ys′ cs ≡ after cs
+    pub answered-run : recentred (writtenOf r n) xs′ ys′ cs ≡ after cs
     unfolding Answered
-    answered-run long-x long-y = elim (ℕ-discrete r 0) [
-      | yes z ↦ answered-shown z long-x long-y ∙ answered .1 z ∙ ap after (run-back (not-many z))
+    answered-run = elim (ℕ-discrete r 0) [
+      | yes z ↦ answered-shown z ∙ answered .1 z ∙ ap after (run-back (not-many z))
       | no z ↦ rw (written-none r n z, recentred-none xs′ ys′ cs) (sym (by .stays cs (λ w. z (answered-number ∙ w))))
     ]

@@ -69,7 +69,7 @@ module _ (n : ℕ) (xs ys rs : List Float) (container : Rectangle) where
   -- ---- a refusal
   pub settled-refused : (number : ℕ) → number ≡ containedNumber n xs ys rs container → number ≢ 0 → SettledAt xs ys rs n container (record { refusal = number; container = container }) xs ys
   unfolding containedNumber frontContained
-  settled-refused number e h = record { placed = by-test (tooMany n) refl; circles = λ z. absurd (h z) }
+  settled-refused number e h = record { placed = by-test (tooMany n) refl; long = λ z. absurd (h z); circles = λ z. absurd (h z) }
     where
       by-test : (b : Bool) → tooMany n ≡ b → _≡_ {A = Placed} (record { refusal = number; container = container }) (placedOf (frontContained n xs ys rs container))
       by-test true t = rw (e, t)
@@ -79,7 +79,7 @@ module _ (n : ℕ) (xs ys rs : List Float) (container : Rectangle) where
 
   pub front-settled : (r : Rectangle) (xs₁ ys₁ : List Float) → length xs₁ ≡ n → length ys₁ ≡ n → settledAs r (circlesOf xs₁ ys₁ (take n rs)) ≡ settled container cs
       → SettledFront xs ys rs n container r (xs₁ ++ drop (n - 0) xs) (ys₁ ++ drop (n - 0) ys)
-  front-settled r xs₁ ys₁ long-x long-y e = rw (take-at xs₁ (drop (n - 0) xs) n long-x, take-at ys₁ (drop (n - 0) ys) n long-y) e
+  front-settled r xs₁ ys₁ long-x long-y e = rw (take-at xs₁ (drop (n - 0) xs) n long-x, take-at ys₁ (drop (n - 0) ys) n long-y) (long-x, e)
 
   -- ---- an acceptance
   module _ (room : n ≤ maxCircles) (h : containerRefusal cs container ≡ 0) where
@@ -95,6 +95,7 @@ module _ (n : ℕ) (xs ys rs : List Float) (container : Rectangle) where
     settled-accepted r xs′ ys′ e =
         let whole : frontContained n xs ys rs container ≡ settled container cs = rw (is-false (tooMany n) (not-too-many-iff n .1 room)) (container-answers cs container .on-acceptance h) in
         record {
-          placed = ap placedOf e ∙ rw whole;
-          circles = λ z. ap (λ (c : Contained). c .circles) e ∙ rw whole;
+          placed = ap placedOf (e .1) ∙ rw whole;
+          long = λ z. e .0;
+          circles = λ z. ap (λ (c : Contained). c .circles) (e .1) ∙ rw whole;
         }

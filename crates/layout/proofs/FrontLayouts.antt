@@ -108,7 +108,7 @@ module _ (n : ℕ) (xs ys rs : List Float) (factor : Float) (masks : List ℕ) (
   unfolding refusedLayout
   laid-refused r number e h is =
       let some : frontNumber n xs ys rs factor masks areas ≢ 0 = λ z. h (e ∙ z) in
-      record { result = is ∙ rw e (refused-result some); circles = λ z. absurd (never z); promises = λ z. absurd (never z) }
+      record { result = is ∙ rw e (refused-result some); long = λ z. absurd (never z); circles = λ z. absurd (never z); promises = λ z. absurd (never z) }
     where
       never : r .refusal ≡ 0 → ⊥
       never z = h (sym (ap (λ (o : Outcome). o .refusal) is) ∙ z)
@@ -127,4 +127,4 @@ module _ (n : ℕ) (xs ys rs : List Float) (factor : Float) (masks : List ℕ) (
         let all = layout-answers cs factor masks areas .on-acceptance h in
         let kept : Promises bound cs (regions masks areas) (arranged golden cs factor (regions masks areas) .result) (arranged golden cs factor (regions masks areas) .circles) =
             subst (λ (l : Layout). Promises bound cs (regions masks areas) (l .result) (l .circles)) all (unfold Demand3 in layout-promises cs factor masks areas doubles h) in
-        record { result = is ∙ rw whole; circles = λ z. again ∙ rw whole; promises = λ z. rw (is, again) kept }
+        record { result = is ∙ rw whole; long = λ z. rw (take-at xs₁ (drop (n - 0) xs) n long-x) long-x; circles = λ z. again ∙ rw whole; promises = λ z. rw (is, again) kept }

@@ -30,12 +30,12 @@ unfolding recentred tab
 recentred-none xs ys cs = refl
 
 -- all of them: the circles that the lists show, with the run's radii
-pub recentred-all : (n : ℕ) (xs ys : List Float) (cs : List Circle) → n ≡ length cs → n ≤ length xs → n ≤ length ys → recentred n xs ys cs ≡ circlesOf (take n xs) (take n ys) (radiiOf cs)
+pub recentred-all : (n : ℕ) (xs ys : List Float) (cs : List Circle) → n ≡ length cs → length (take n xs) ≡ n → recentred n xs ys cs ≡ circlesOf (take n xs) (take n ys) (radiiOf cs)
 unfolding recentred
-recentred-all n xs ys cs e hx hy =
+recentred-all n xs ys cs e long =
     let none-left : drop n cs ≡ [] = rw e (drop-length cs) in
     rw none-left
-    (append-nil (tab n (λ i. circleOf (at xs i) (at ys i) (circle cs i .radius))) ∙ sym (shown-equal (take n xs) (take n ys) (radiiOf cs) n (λ i. circleOf (at xs i) (at ys i) (circle cs i .radius)) (length-take-le n xs hx)
+    (append-nil (tab n (λ i. circleOf (at xs i) (at ys i) (circle cs i .radius))) ∙ sym (shown-equal (take n xs) (take n ys) (radiiOf cs) n (λ i. circleOf (at xs i) (at ys i) (circle cs i .radius)) long
     (λ i h. rw (getD-take n xs i nan h, getD-take n ys i nan h, radius-at cs i (omega arith)))))
 
 -- ---- the loop that writes them: the run after i turns, and at the end

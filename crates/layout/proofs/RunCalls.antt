@@ -97,17 +97,17 @@ module _ (cs : List Circle) (zs : List Float) where
         let number : r .refusal ≡ unlessMany n 1 (layoutRefusal (front n xs ys rs) factor masks areas) =
               ap (λ (o : Outcome). o .refusal) result-said ∙ chosen (λ (o : Outcome). o .refusal) (tooMany n) (refusedLayout 1 [] .result) (layout (front n xs ys rs) factor masks areas .result)
               ∙ ap (λ (k : ℕ). cond (tooMany n) 1 k) (layout-answers (front n xs ys rs) factor masks areas .says) in
-        (number, λ z. e .circles z ∙ rw (few-accepted n _ (r .refusal) number z))
+        (number, λ z. e .circles z ∙ rw (few-accepted n _ (r .refusal) number z), e .long)
 
     pub laid-fits : (writtenOf (r .refusal) n ≤ n) × (writtenOf (r .refusal) n ≤ maxCircles)
     laid-fits = answered-fits cs zs (layout-answering factor masks areas) (r .refusal) xs′ ys′ laid-answered
 
-    pub laid-lays : length xs′ ≡ maxCircles → length ys′ ≡ maxCircles → Lays cs factor masks areas r (recentred (writtenOf (r .refusal) n) xs′ ys′ cs)
-    laid-lays long-x long-y =
+    pub laid-lays : Lays cs factor masks areas r (recentred (writtenOf (r .refusal) n) xs′ ys′ cs)
+    laid-lays =
         let by = layout-answering factor masks areas in
         (of-run cs (front n xs ys rs) (λ l. layout l factor masks areas .result) (refusedLayout 1 [] .result) (resultOf r) (run-back cs zs) (many-result factor masks areas cs) result-said,
-        answered-run cs zs by (r .refusal) xs′ ys′ laid-answered long-x long-y,
-        λ z. subst (λ (l : List Circle). Promises bound l (regions masks areas) (resultOf r) (recentred (writtenOf (r .refusal) n) xs′ ys′ cs)) (run-back cs zs (not-many cs zs by (r .refusal) xs′ ys′ laid-answered z)) (rw (answered-shown cs zs by (r .refusal) xs′ ys′ laid-answered z long-x long-y) (e .promises z)))
+        answered-run cs zs by (r .refusal) xs′ ys′ laid-answered,
+        λ z. subst (λ (l : List Circle). Promises bound l (regions masks areas) (resultOf r) (recentred (writtenOf (r .refusal) n) xs′ ys′ cs)) (run-back cs zs (not-many cs zs by (r .refusal) xs′ ys′ laid-answered z)) (rw (answered-shown cs zs by (r .refusal) xs′ ys′ laid-answered z) (e .promises z)))
 
   -- ---- the container
   module _ (container : Rectangle) (r : Placed) (xs′ ys′ : List Float) (e : SettledAt xs ys rs n container r xs′ ys′) where
@@ -124,10 +124,10 @@ module _ (cs : List Circle) (zs : List Float) where
         let number : r .refusal ≡ unlessMany n 1 (containerRefusal (front n xs ys rs) container) =
               ap (λ (o : Placed). o .refusal) placed-said ∙ chosen (λ (o : Placed). o .refusal) (tooMany n) many (placedOf (contained (front n xs ys rs) container))
               ∙ ap (λ (k : ℕ). cond (tooMany n) 1 k) (container-answers (front n xs ys rs) container .says) in
-        (number, λ z. e .circles z ∙ rw (few-accepted n _ (r .refusal) number z))
+        (number, λ z. e .circles z ∙ rw (few-accepted n _ (r .refusal) number z), e .long)
 
     pub settled-fits : (writtenOf (r .refusal) n ≤ n) × (writtenOf (r .refusal) n ≤ maxCircles)
     settled-fits = answered-fits cs zs (container-answering container) (r .refusal) xs′ ys′ settled-answered
 
-    pub settled-settles : length xs′ ≡ maxCircles → length ys′ ≡ maxCircles → Settles cs container r (recentred (writtenOf (r .refusal) n) xs′ ys′ cs)
-    settled-settles long-x long-y = (of-run cs (front n xs ys rs) (λ l. placedOf (contained l container)) many r (run-back cs zs) (many-placed container cs) placed-said, answered-run cs zs (container-answering container) (r .refusal) xs′ ys′ settled-answered long-x long-y)
+    pub settled-settles : Settles cs container r (recentred (writtenOf (r .refusal) n) xs′ ys′ cs)
+    settled-settles = (of-run cs (front n xs ys rs) (λ l. placedOf (contained l container)) many r (run-back cs zs) (many-placed container cs) placed-said, answered-run cs zs (container-answering container) (r .refusal) xs′ ys′ settled-answered)

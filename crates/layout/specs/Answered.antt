@@ -4,6 +4,7 @@ use mathlib.Core.Path.{_≡_}
 use mathlib.Core.Bool.{cond}
 use mathlib.Core.List.{List}
 use lib.Ieee.{Float}
+use lib.ListN.{length, take}
 use Rattle.shapes.specs.declared.geometry.shapes.circle.Circle.{Circle}
 use Rattle.scope.specs.Refusals.{tooMany}
 use Rattle.intake.specs.CauseWords.{front}
@@ -13,4 +14,4 @@ abbrev pub unlessMany : {X : Type 0} → ℕ → X → X → X
 unlessMany n bad good = cond (tooMany n) bad good
 
 unfoldable pub Answered : (List Circle → ℕ) → (List Circle → List Circle) → List Float → List Float → List Float → ℕ → ℕ → List Float → List Float → Type 0
-Answered number after xs ys rs n refusal xs′ ys′ = (refusal ≡ unlessMany n 1 (number (front n xs ys rs))) × (refusal ≡ 0 → front n xs′ ys′ rs ≡ after (front n xs ys rs))
+Answered number after xs ys rs n refusal xs′ ys′ = (refusal ≡ unlessMany n 1 (number (front n xs ys rs))) × (refusal ≡ 0 → front n xs′ ys′ rs ≡ after (front n xs ys rs)) × (refusal ≡ 0 → length (take n xs′) ≡ n)

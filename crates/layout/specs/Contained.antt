@@ -4,6 +4,7 @@ use mathlib.Core.Path.{_≡_}
 use mathlib.Core.Bool.{cond}
 use mathlib.Core.List.{List}
 use lib.Ieee.{Float}
+use lib.ListN.{length, take}
 use Rattle.shapes.specs.declared.geometry.shapes.circle.Circle.{Circle}
 use Rattle.shapes.specs.declared.geometry.shapes.rectangle.Rectangle.{Rectangle}
 use Rattle.scope.specs.Refusals.{tooMany, containerRefusal}
@@ -26,11 +27,12 @@ containedNumber n xs ys rs container = cond (tooMany n) 1 (containerRefusal (fro
 -- the core's answer, and after an acceptance the circles that its lists show
 pub record SettledAt (xs ys rs : List Float) (n : ℕ) (container : Rectangle) (r : Placed) (xs′ ys′ : List Float) : Type 0 where
   pub placed : r ≡ placedOf (frontContained n xs ys rs container)
+  pub long : r .refusal ≡ 0 → length (take n xs′) ≡ n
   pub circles : r .refusal ≡ 0 → front n xs′ ys′ rs ≡ frontContained n xs ys rs container .circles
 
 -- the same of accepted circles
 abbrev pub SettledFront : List Float → List Float → List Float → ℕ → Rectangle → Rectangle → List Float → List Float → Type 0
-SettledFront xs ys rs n container r xs′ ys′ = settledAs r (front n xs′ ys′ rs) ≡ settled container (front n xs ys rs)
+SettledFront xs ys rs n container r xs′ ys′ = (length (take n xs′) ≡ n) × (settledAs r (front n xs′ ys′ rs) ≡ settled container (front n xs ys rs))
 
 -- the call's answer for a run, and the run after it
 abbrev pub Settles : List Circle → Rectangle → Placed → List Circle → Type 0

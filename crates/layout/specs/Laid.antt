@@ -4,6 +4,7 @@ use mathlib.Core.Path.{_≡_}
 use mathlib.Core.Bool.{cond}
 use mathlib.Core.List.{List, []}
 use lib.Ieee.{Float}
+use lib.ListN.{length, take}
 use Rattle.shapes.specs.declared.geometry.shapes.circle.Circle.{Circle}
 use Rattle.scope.specs.Numbers.{golden}
 use Rattle.scope.specs.Links.{regions}
@@ -39,6 +40,7 @@ frontNumber n xs ys rs factor masks areas = cond (tooMany n) 1 (layoutRefusal (f
 -- the core's answer: the result, and after an acceptance the circles that its lists show, which keep the promises
 pub record Laid (xs ys rs : List Float) (n : ℕ) (factor : Float) (masks : List ℕ) (areas : List Float) (r : Result) (xs′ ys′ : List Float) : Type 0 where
   pub result : resultOf r ≡ frontLayout n xs ys rs factor masks areas .result
+  pub long : r .refusal ≡ 0 → length (take n xs′) ≡ n
   pub circles : r .refusal ≡ 0 → front n xs′ ys′ rs ≡ frontLayout n xs ys rs factor masks areas .circles
   pub promises : r .refusal ≡ 0 → Promises bound (front n xs ys rs) (regions masks areas) (resultOf r) (front n xs′ ys′ rs)
 

@@ -24,7 +24,7 @@ returns c =
     let a = c .before .before .before .before .before .before .before .before .before .before .before .before .before .args in
     let s = c .before .before .before .before .before .before .before .before .before .split-array .ensures in
     rw (c .recentred .ensures, c .before .written .ensures)
-    (contained-answer (a .n) (a .circles) (search needs) _ _ _ _ (s .1, s .2, s .3) (a .container) (c .before .before .before .before .before .settled-at .result) _ _ (c .before .before .before .before .before .settled-at .ensures) (search needs) (search needs))
+    (contained-answer (a .n) (a .circles) (search needs) _ _ _ _ (s .1, s .2, s .3) (a .container) (c .before .before .before .before .before .settled-at .result) _ _ (c .before .before .before .before .before .settled-at .ensures))
 
 pub normalize-layout-with-container-by-value-spec : {M : Type 1} → statement M
 normalize-layout-with-container-by-value-spec =
