@@ -54,19 +54,6 @@ enum Moved {
 
 // ---- parents
 
-// What is no more than this does not count: 1e-10 of the largest area, or of 1.
-pub(crate) fn tolerance(areas: &[f64]) -> f64
-    ensures { λ r. ⌜ ((masks : List ℕ) → length masks ≡ length (now (areas .entry)) → r ≡ tolerance (regions masks (now (areas .entry)))) ⌝ }
-{
-    let mut largest = 0.0;
-    let mut k: usize = 0;
-    while k < areas.len() {
-        largest = maximum(largest, absolute(areas[k]));
-        k += 1;
-    }
-    1e-10 * maximum(largest, 1.0)
-}
-
 // Whether a region holds circle i, and its area is not at most the limit. A NaN is at most nothing.
 fn holds_above(mask: u64, area: f64, i: usize, limit: f64) -> bool
     requires { ⌜ i < 64 ⌝ }

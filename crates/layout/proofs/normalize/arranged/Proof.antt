@@ -2,7 +2,7 @@
 use native.Mathlib.Omega.{arith}
 use mathlib.Core.Path.{_≡_, _∙_}
 use borrow.Author.Needs.{needs}
-use Rattle.grouping.specs.Answers.{grouped}
+use Rattle.clustering.specs.Answers.{grouped}
 use Rattle.layout.proofs.WholeSteps.{accepted-lifted, accepted-paired, room-for-numbers, few-clusters, numbers-inside, length-numbers, clusters-packable, whole-result, whole-circles}
 use Rattle.layout.proofs.normalize.arranged.Statement.{statement}
 use Rattle.layout.proofs.normalize.arranged.Tie as tie
