@@ -9,7 +9,7 @@ ghost use lib.Ieee.{nan, eq};
 ghost use Rattle.scope.specs.Numbers.{_<ᶠ_, _*ᶠ_, nought, golden};
 ghost use Rattle.scope.specs.Runs.{tab, filled};
 ghost use Rattle.scope.specs.Limits.{circleCap};
-ghost use Rattle.scope.specs.Packing.{noRectangle, widthAt, heightAt, columns, columnsAnswer, place, breadth, start, centred, placed, packed};
+ghost use Rattle.scope.specs.Packing.{noRectangle, widthAt, heightAt, columns, columnsAnswer, place, breadth, start, centred, placed, packed, skylinePack};
 ghost use Rattle.promises.proofs.AfterRefusal.{refusedPacking};
 ghost use Rattle.intake.specs.Limits.{maxCircles};
 ghost use Rattle.intake.specs.Columns.{at, overwritten};
@@ -23,6 +23,7 @@ use intake::causes::of_sides;
 use intake::limits::MAX_CIRCLES;
 use intake::limits::room;
 use intake::limits::too_many;
+use intake::runs::split_sides;
 use shapes::extremes::maximum;
 use shapes::geometry::primitives::point::Point;
 use shapes::geometry::shapes::rectangle::Rectangle;
@@ -59,6 +60,17 @@ pub fn skyline_pack_by_value(rectangles: [Rectangle; MAX_CIRCLES], n: usize, pad
     let mut widths = [0.0; MAX_CIRCLES];
     let mut heights = [0.0; MAX_CIRCLES];
     sides_of(rectangles, room(n), &mut widths, &mut heights);
+    packed_at(&widths, &heights, n, padding)
+}
+
+// The same of a lent run of boxes, all of them.
+pub fn skyline_pack(rectangles: &[Rectangle], padding: f64) -> Packed
+    ensures { λ r. ⌜ packedBoxes r ≡ skylinePack (now (rectangles .entry)) padding ⌝ }
+{
+    let mut widths = [0.0; MAX_CIRCLES];
+    let mut heights = [0.0; MAX_CIRCLES];
+    let n = rectangles.len();
+    split_sides(rectangles, &mut widths, &mut heights);
     packed_at(&widths, &heights, n, padding)
 }
 
