@@ -5,14 +5,14 @@ use native.Mathlib.Omega.{arith}
 use mathlib.Core.Path.{_≡_, refl, sym, ap, _∙_}
 use mathlib.Core.Logic.{_≢_}
 use mathlib.Core.Bool.{Bool, true, false, not, cond, _||_}
-use mathlib.Core.List.{List, [], _∷_, _++_}
+use mathlib.Core.List.{List, []}
 use lib.Dec.{eqb}
 use borrow.Author.Tests.{eq-eqb}
 use lib.ListN.{length, getD, take, drop, List·getD-append}
 use lib.Seq.{length-take-le, getD-take, ext-getD}
 use lib.Ieee.{Float, nan}
 use Rattle.shapes.specs.declared.geometry.shapes.rectangle.Rectangle.{Rectangle}
-use Rattle.shapes.specs.Records.{pointAt, rectangleOf}
+use Rattle.shapes.specs.Records.{rectangleOf}
 use Rattle.scope.specs.Numbers.{golden}
 use Rattle.scope.specs.Runs.{tab, filled, any}
 use Rattle.scope.specs.Limits.{circleCap, sideOk}
@@ -159,10 +159,10 @@ many-refused rects pad h = rw h
 
 written-sides : (rects : List Rectangle) (ws hs : List Float) → Sides (length rects) (overwritten (widthsOf rects) ws) (overwritten (heightsOf rects) hs) rects
 written-sides rects ws hs = record {
-    long = refl;
-    wide = λ i g. sym (front-at (widthsOf rects) ws i (rw (length-widths rects) g) ∙ width-at rects i g);
-    high = λ i g. sym (front-at (heightsOf rects) hs i (rw (length-heights rects) g) ∙ height-at rects i g);
-  }
+  long = refl;
+  wide = λ i g. sym (front-at (widthsOf rects) ws i (rw (length-widths rects) g) ∙ width-at rects i g);
+  high = λ i g. sym (front-at (heightsOf rects) hs i (rw (length-heights rects) g) ∙ height-at rects i g);
+}
 
 pub split-by-sides : (rects : List Rectangle) (ws hs : List Float) (pad : Float) → sidedPacking (length rects) (splitOf widthsOf rects ws) (splitOf heightsOf rects hs) pad ≡ skylinePack rects pad
 unfolding sidedPacking
