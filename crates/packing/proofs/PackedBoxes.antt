@@ -5,30 +5,36 @@ use native.Mathlib.Omega.{arith}
 use mathlib.Core.Path.{_≡_, refl, sym, ap, _∙_}
 use mathlib.Core.Logic.{_≢_}
 use mathlib.Core.Bool.{Bool, true, false, not, cond, _||_}
-use mathlib.Core.List.{List, [], _∷_, _++_}
+use mathlib.Core.List.{List, []}
 use lib.Dec.{eqb}
 use borrow.Author.Tests.{eq-eqb}
 use lib.ListN.{length, getD, take, drop, List·getD-append}
 use lib.Seq.{length-take-le, getD-take, ext-getD}
 use lib.Ieee.{Float, nan}
 use Rattle.shapes.specs.declared.geometry.shapes.rectangle.Rectangle.{Rectangle}
-use Rattle.shapes.specs.Records.{pointAt, rectangleOf}
+use Rattle.shapes.specs.Records.{rectangleOf}
 use Rattle.scope.specs.Numbers.{golden}
 use Rattle.scope.specs.Runs.{tab, filled, any}
 use Rattle.scope.specs.Limits.{circleCap, sideOk}
-use Rattle.scope.specs.Refusals.{tooMany, badSide, packRefusal}
+use Rattle.scope.specs.Refusals.{causes, causeHolds, first, refusal, tooMany, badSide, packRefusal}
 use Rattle.scope.specs.Packing.{Packing, noRectangle, rectangle, widthAt, heightAt, packed, packing, skylinePack}
 use Rattle.promises.proofs.Cases.{is-false}
 use Rattle.promises.proofs.Accepted.{not-too-many-iff}
 use Rattle.promises.proofs.Runs.{length-tab, getD-tab}
 use Rattle.promises.proofs.AfterRefusal.{refusedPacking}
 use Rattle.intake.specs.Limits.{maxCircles}
-use Rattle.intake.specs.Columns.{at, overwritten}
+use Rattle.intake.specs.Columns.{at, overwritten, widthsOf, heightsOf}
 use Rattle.intake.proofs.Checking.{few}
-use Rattle.intake.proofs.Columns.{any-either, not-both}
+use Rattle.intake.proofs.Columns.{any-either, not-both, length-widths, length-heights, width-at, height-at}
+use Rattle.intake.proofs.Splitting.{splitOf}
 use Rattle.packing.specs.Sides.{sided, sidesNumber, sidedPacking, firstPacking, centreXs, centreYs, boxAt, Sides}
 use Rattle.packing.specs.Lists.{At}
 use Rattle.packing.proofs.Packings.{sided-sides, length-packed, packed-by-sides, boxed-at}
+
+-- ---- a list over the front of another
+front-at : (l m : List Float) (i : ℕ) → i < length l → at (overwritten l m) i ≡ at l i
+unfolding overwritten
+front-at l m i h = List·getD-append l (drop (length l) m) nan i h
 
 -- ---- refused or accepted
 by-count : (b : Bool) (k : ℕ) (l : List Rectangle) → cond b (packing 1 []) (packing k l) ≡ packing (cond b 1 k) l
@@ -67,10 +73,6 @@ module _ (n : ℕ) (ws hs : List Float) (pad : Float) where
 
   length-boxes : length boxes ≡ n
   length-boxes = length-packed n ws hs (sided n ws hs) (sided-sides n ws hs) pad
-
-  front-at : (l m : List Float) (i : ℕ) → i < length l → at (overwritten l m) i ≡ at l i
-  unfolding overwritten
-  front-at l m i h = List·getD-append l (drop (length l) m) nan i h
 
   module _ (xs ys : List Float) where
     x-at : (i : ℕ) → i < n → at (overwritten (centreXs boxes) xs) i ≡ rectangle boxes i .center .x
@@ -149,3 +151,24 @@ first-by-sides n ws hs rects pad long w h = by-test (tooMany n) refl
           wide = λ i g. ap (λ (r : Rectangle). r .width) (getD-take n rects i noRectangle g) ∙ sym (w .is i (omega arith));
           high = λ i g. ap (λ (r : Rectangle). r .height) (getD-take n rects i noRectangle g) ∙ sym (h .is i (omega arith));
         }) pad)
+
+-- ---- a run whose sides were written over two lists, unless there are too many boxes
+many-refused : (rects : List Rectangle) (pad : Float) → tooMany (length rects) ≡ true → packing 1 [] ≡ skylinePack rects pad
+unfolding skylinePack packRefusal refusal first causeHolds causes packing
+many-refused rects pad h = rw h
+
+written-sides : (rects : List Rectangle) (ws hs : List Float) → Sides (length rects) (overwritten (widthsOf rects) ws) (overwritten (heightsOf rects) hs) rects
+written-sides rects ws hs = record {
+  long = refl;
+  wide = λ i g. sym (front-at (widthsOf rects) ws i (rw (length-widths rects) g) ∙ width-at rects i g);
+  high = λ i g. sym (front-at (heightsOf rects) hs i (rw (length-heights rects) g) ∙ height-at rects i g);
+}
+
+pub split-by-sides : (rects : List Rectangle) (ws hs : List Float) (pad : Float) → sidedPacking (length rects) (splitOf widthsOf rects ws) (splitOf heightsOf rects hs) pad ≡ skylinePack rects pad
+unfolding sidedPacking
+split-by-sides rects ws hs pad = by-test (tooMany (length rects)) refl
+  where
+    by-test : (b : Bool) → tooMany (length rects) ≡ b
+        → cond b (packing 1 []) (skylinePack (sided (length rects) (cond b ws (overwritten (widthsOf rects) ws)) (cond b hs (overwritten (heightsOf rects) hs))) pad) ≡ skylinePack rects pad
+    by-test true h = many-refused rects pad h
+    by-test false h = sym (packing-by-sides _ _ _ rects (written-sides rects ws hs) pad)

@@ -181,7 +181,7 @@ module _ (n : ℕ) (ws hs : List Float) (pad : Float) (w : length ws ≡ maxCirc
       let s = sided-sides n ws hs in
       any-either badSide long (sided n ws hs) noRectangle (take n ws) (take n hs) (s .long ∙ sym k) (length-take-le n hs (omega arith) ∙ sym k)
       (λ i g. let below : i < n = rw k at g in
-          rw (s .wide i below, s .high i below, getD-take n ws i nan below, getD-take n hs i nan below) (not-both (sideOk (at ws i)) (sideOk (at hs i))))
+      rw (s .wide i below, s .high i below, getD-take n ws i nan below, getD-take n hs i nan below) (not-both (sideOk (at ws i)) (sideOk (at hs i))))
 
   either-side : (m a b p : Bool) → refusal ((1, m) ∷ (7, a) ∷ (7, b) ∷ (8, p) ∷ []) ≡ refusal ((1, m) ∷ (7, a || b) ∷ (8, p) ∷ [])
   unfolding refusal first causeHolds causes
@@ -202,5 +202,5 @@ module _ (n : ℕ) (ws hs : List Float) (pad : Float) (w : length ws ≡ maxCirc
       by-test false e =
           let l : n ≤ maxCircles = few n e in
           let first : refusal ((1, false) ∷ (7, any long (take n ws)) ∷ (7, any long (take n hs)) ∷ (8, badPadding pad) ∷ []) ≡ packRefusal (sided n ws hs) pad =
-              either-side false (any long (take n ws)) (any long (take n hs)) (badPadding pad) ∙ rw (sided-sides n ws hs .long, e, any-side l) in
+          either-side false (any long (take n ws)) (any long (take n hs)) (badPadding pad) ∙ rw (sided-sides n ws hs .long, e, any-side l) in
           rw (min-eq-left l) first

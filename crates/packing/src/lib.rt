@@ -9,7 +9,7 @@ ghost use lib.Ieee.{nan, eq};
 ghost use Rattle.scope.specs.Numbers.{_<ᶠ_, _*ᶠ_, nought, golden};
 ghost use Rattle.scope.specs.Runs.{tab, filled};
 ghost use Rattle.scope.specs.Limits.{circleCap};
-ghost use Rattle.scope.specs.Packing.{noRectangle, widthAt, heightAt, columns, columnsAnswer, place, breadth, start, centred, placed, packed};
+ghost use Rattle.scope.specs.Packing.{noRectangle, widthAt, heightAt, columns, columnsAnswer, place, breadth, start, centred, placed, packed, skylinePack};
 ghost use Rattle.promises.proofs.AfterRefusal.{refusedPacking};
 ghost use Rattle.intake.specs.Limits.{maxCircles};
 ghost use Rattle.intake.specs.Columns.{at, overwritten};
@@ -22,7 +22,7 @@ use intake::causes::of_padding;
 use intake::causes::of_sides;
 use intake::limits::MAX_CIRCLES;
 use intake::limits::room;
-use intake::limits::too_many;
+use intake::runs::split_sides;
 use shapes::extremes::maximum;
 use shapes::geometry::primitives::point::Point;
 use shapes::geometry::shapes::rectangle::Rectangle;
@@ -59,6 +59,17 @@ pub fn skyline_pack_by_value(rectangles: [Rectangle; MAX_CIRCLES], n: usize, pad
     let mut widths = [0.0; MAX_CIRCLES];
     let mut heights = [0.0; MAX_CIRCLES];
     sides_of(rectangles, room(n), &mut widths, &mut heights);
+    packed_at(&widths, &heights, n, padding)
+}
+
+// The same of a lent run of boxes, all of them.
+pub fn skyline_pack(rectangles: &[Rectangle], padding: f64) -> Packed
+    ensures { λ r. ⌜ packedBoxes r ≡ skylinePack (now (rectangles .entry)) padding ⌝ }
+{
+    let mut widths = [0.0; MAX_CIRCLES];
+    let mut heights = [0.0; MAX_CIRCLES];
+    let n = rectangles.len();
+    split_sides(rectangles, &mut widths, &mut heights);
     packed_at(&widths, &heights, n, padding)
 }
 
@@ -180,19 +191,18 @@ fn pack_lists(
     0
 }
 
-fn in_front(
-    widths: &[f64],
-    heights: &[f64],
-    n: usize,
-    padding: f64,
-    xs: &mut [f64],
-    ys: &mut [f64],
-)
+fn in_front(widths: &[f64], heights: &[f64], n: usize, padding: f64, xs: &mut [f64], ys: &mut [f64])
     requires { ⌜ (n ≤ maxCircles) × (length (now widths) ≡ maxCircles) × (length (now heights) ≡ maxCircles) × (length (now xs) ≡ maxCircles) × (length (now ys) ≡ maxCircles) ⌝ }
     ensures x { λ _. ⌜ now (xs .exit) ≡ overwritten (centreXs (packed golden (sided n (now (widths .entry)) (now (heights .entry))) padding)) (now (xs .entry)) ⌝ }
     ensures y { λ _. ⌜ now (ys .exit) ≡ overwritten (centreYs (packed golden (sided n (now (widths .entry)) (now (heights .entry))) padding)) (now (ys .entry)) ⌝ }
 {
-    in_grid(&widths[0..n], &heights[0..n], padding, &mut xs[0..n], &mut ys[0..n]);
+    in_grid(
+        &widths[0..n],
+        &heights[0..n],
+        padding,
+        &mut xs[0..n],
+        &mut ys[0..n],
+    );
 }
 
 fn pack_number(widths: &[f64], heights: &[f64], n: usize, padding: f64) -> u8
@@ -200,7 +210,9 @@ fn pack_number(widths: &[f64], heights: &[f64], n: usize, padding: f64) -> u8
     ensures { λ r. ⌜ r ≡ sidesNumber n (now (widths .entry)) (now (heights .entry)) padding ⌝ }
 {
     let m = room(n);
-    number_of(of_count(n) | of_sides(&widths[0..m]) | of_sides(&heights[0..m]) | of_padding(padding))
+    number_of(
+        of_count(n) | of_sides(&widths[0..m]) | of_sides(&heights[0..m]) | of_padding(padding),
+    )
 }
 
 // ---- the grid, over lists of one length

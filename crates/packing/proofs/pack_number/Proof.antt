@@ -50,9 +50,9 @@ returns c =
     let S = c .before .before .before .before .before .before .before .before .before .before in
     let a = S .args in
     let all =
-        joined _ _ ((1, _) ∷ (7, _) ∷ (7, _) ∷ []) ((8, _) ∷ [])
-        (joined _ _ ((1, _) ∷ (7, _) ∷ []) ((7, _) ∷ []) (joined _ _ ((1, _) ∷ []) ((7, _) ∷ []) (c .before .before .before .before .before .before .of-count .ensures) (c .before .before .before .before .of-sides .ensures)) (c .before .before .of-sides2 .ensures))
-        (c .before .of-padding .ensures) in
+    joined _ _ ((1, _) ∷ (7, _) ∷ (7, _) ∷ []) ((8, _) ∷ [])
+    (joined _ _ ((1, _) ∷ (7, _) ∷ []) ((7, _) ∷ []) (joined _ _ ((1, _) ∷ []) ((7, _) ∷ []) (c .before .before .before .before .before .before .of-count .ensures) (c .before .before .before .before .of-sides .ensures)) (c .before .before .of-sides2 .ensures))
+    (c .before .of-padding .ensures) in
     c .number-of .ensures ∙ number-says _ _ all ∙ rw (c .before .before .before .before .before .before .before .room .ensures, sub-zero) (sides-number (a .n) (a .widths .now) (a .heights .now) (a .padding) (S .pre .0) (S .pre .1))
 
 pub pack-number-spec : {M : Type 1} → statement M
