@@ -2,7 +2,7 @@
 use Prim.Native.Nat.{ℕ, _+_, _≤_, _<_}
 use native.Mathlib.Omega.{arith}
 use native.Mathlib.Numerals.{add-one}
-use mathlib.Core.Path.{_≡_, refl}
+use mathlib.Core.Path.{_≡_, refl, _∙_}
 use mathlib.Core.Bool.{Bool, true, false, cond}
 use mathlib.Core.List.{List}
 use lib.ListN.{length, getD, set}
@@ -55,3 +55,12 @@ module _ {A B : Type 0} (f : A → B) (cs : List A) (d : A) (e : B) (col : List 
       by-count : (b : Bool) → tooMany (length cs) ≡ b → column end ≡ cond (tooMany (length cs)) zs (overwritten col zs)
       by-count true h = rw h
       by-count false h = rw (h, long, take-all (length cs) col (rw long (omega arith)))
+
+-- the same of the first n records of an array: the column is theirs, and there is room for it
+module _ {A B : Type 0} (f : A → B) (n : ℕ) (cs : List A) (d : A) (e : B) (col : List B) (long : length col ≡ n) (same : (i : ℕ) → i < n → getD col i e ≡ f (getD cs i d)) (zs : List B) (wide : n ≤ length zs) where
+  pub front-next : (i : ℕ) {m : List B} → i < n → m ≡ over i col zs → set m i (f (getD cs i d)) ≡ over (i + 1) col zs
+  front-next i h q = rw (q, add-one, ← same i h) (over-next i col zs e (rw long h) (omega arith))
+
+  pub front-all : (i : ℕ) {m : List B} → i ≤ n → n ≤ i → m ≡ over i col zs → m ≡ overwritten col zs
+  unfolding overwritten
+  front-all i low high q = let all : i ≡ n = omega arith in q ∙ rw (all, long, take-all n col (rw long (omega arith)))

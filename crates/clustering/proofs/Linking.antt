@@ -1,0 +1,103 @@
+-- The table of links: the diagonal circle by circle, then the regions one by one, or the circles row by row.
+use Prim.Native.Nat.{ℕ, _+_, _≤_, _<_}
+use native.Mathlib.Omega.{arith}
+use native.Mathlib.Numerals.{add-one}
+use native.Mathlib.Decide.{decLt, ℕ-discrete}
+use mathlib.Core.Path.{_≡_, refl, sym, _∙_, subst}
+use mathlib.Core.Bool.{Bool, true, false, not, _&&_, _||_, or-assoc, or-false, and-false, and-true}
+use mathlib.Core.List.{List, [], _∷_}
+use lib.ListN.{length, getD, take, replicate}
+use lib.Seq.{take-suc, take-all}
+use lib.Dec.{eqb, ltb}
+use lib.Ieee.{Float, nan}
+use lib.Ieee.Scale.{finite}
+use borrow.Author.Tests.{lt-ltb, le-ltb, eq-eqb, ne-eqb}
+use Rattle.scope.specs.Numbers.{_≤ᶠ_}
+use Rattle.scope.specs.Runs.{bit}
+use Rattle.shapes.specs.declared.geometry.shapes.circle.Circle.{Circle}
+use Rattle.scope.specs.Links.{Region, regions, counts, share, linkedByRegions, circle}
+use Rattle.promises.proofs.Regions.{length-regions, getD-regions}
+use Rattle.promises.proofs.OneMoreRegion.{share-append}
+use Rattle.promises.proofs.Overlap.{overlap-swapped}
+use Rattle.promises.proofs.Clusters.{meet}
+use Rattle.clustering.specs.Table.{cell, mark, Shows}
+use Rattle.clustering.proofs.Table.{shows-same, shows-none, put, shows-put, along, down}
+
+-- ---- each circle linked to itself, as far as circle i
+abbrev pub diagonal : ℕ → ℕ → ℕ → Bool
+diagonal i a b = eqb a b && ltb a i
+
+pub diagonal-start : (n r c : ℕ) → n ≤ r → n ≤ c → Shows n (replicate r (replicate c 0)) (diagonal 0)
+diagonal-start n r c hr hc = shows-same (diagonal 0) (λ a b ha hb. rw (le-ltb a 0 (omega arith), and-false (eqb a b))) (shows-none n r c hr hc)
+
+diagonal-other : (i a b : ℕ) → (a ≡ i → b ≡ i → ⊥) → diagonal i a b ≡ diagonal (i + 1) a b
+diagonal-other i a b h =
+    elim (ℕ-discrete a b) [
+      | no e ↦ rw (ne-eqb a b e)
+      | yes e ↦ rw (← e, eq-eqb a a refl)
+          (elim (decLt a i) [
+            | yes l ↦ lt-ltb a i l ∙ sym (lt-ltb a (i + 1) (omega arith))
+            | no g ↦ let d : i < a = elim (ℕ-discrete a i) [ yes p ↦ absurd (h p (sym e ∙ p)) | no p ↦ omega arith ] in
+                le-ltb a i (omega arith) ∙ sym (le-ltb a (i + 1) (omega arith))
+          ])
+    ]
+
+pub diagonal-step : (n i : ℕ) {m : List (List ℕ)} → i < n → Shows n m (diagonal i) → Shows n (put m i i 1) (diagonal (i + 1))
+diagonal-step n i hi s =
+    shows-put i i (diagonal (i + 1)) hi hi (rw (eq-eqb i i refl, lt-ltb i (i + 1) (omega arith))) (λ a b ha hb h. diagonal-other i a b h) s
+
+pub diagonal-end : (n i : ℕ) {m : List (List ℕ)} → n ≤ i → Shows n m (diagonal i) → Shows n m eqb
+diagonal-end n i h s = shows-same eqb (λ a b ha hb. rw (lt-ltb a i (omega arith)) (and-true (eqb a b))) s
+
+-- ---- the links of the first k regions
+
+abbrev region : List ℕ → List Float → ℕ → Region
+region ms xs k = record { mask = getD ms k 0; area = getD xs k nan }
+
+abbrev noRegion : Region
+noRegion = record { mask = 0; area = nan }
+
+abbrev pub firstLinks : Float → List ℕ → List Float → ℕ → ℕ → ℕ → Bool
+firstLinks tol ms xs k = linkedByRegions tol (take k (regions ms xs))
+
+pub no-links : (n : ℕ) (tol : Float) (ms : List ℕ) (xs : List Float) {m : List (List ℕ)} → Shows n m eqb → Shows n m (firstLinks tol ms xs 0)
+unfolding linkedByRegions share
+no-links n tol ms xs s = shows-same (firstLinks tol ms xs 0) (λ a b ha hb. sym (or-false (eqb a b))) s
+
+module _ (tol : Float) (ms : List ℕ) (xs : List Float) (e : length ms ≡ length xs) (k : ℕ) (h : k < length ms) where
+  next-links : (a b : ℕ) → firstLinks tol ms xs (k + 1) a b ≡ firstLinks tol ms xs k a b || (counts tol (region ms xs k) && (bit (getD ms k 0) a && bit (getD ms k 0) b))
+  unfolding linkedByRegions share
+  next-links a b =
+      let g : k < length (regions ms xs) = rw (length-regions ms xs e) h in
+      let rs = take k (regions ms xs) in
+      let both = counts tol (region ms xs k) && (bit (getD ms k 0) a && bit (getD ms k 0) b) in
+      rw (add-one, take-suc (regions ms xs) k noRegion g, getD-regions ms xs k 0 nan noRegion h (omega arith), share-append tol rs (region ms xs k ∷ []) a b, or-false both)
+      (sym (or-assoc (eqb a b) (share tol rs a b) both))
+
+  pub links-taken : (n : ℕ) {m : List (List ℕ)} → (finite (getD xs k nan) && not (getD xs k nan ≤ᶠ tol)) ≡ true
+      → Shows n m (λ a b. firstLinks tol ms xs k a b || (bit (getD ms k 0) a && bit (getD ms k 0) b)) → Shows n m (firstLinks tol ms xs (k + 1))
+  unfolding counts
+  links-taken n t s = shows-same (firstLinks tol ms xs (k + 1)) (λ a b ha hb. rw (next-links a b, t)) s
+
+  pub links-left : (n : ℕ) {m : List (List ℕ)} → (finite (getD xs k nan) && not (getD xs k nan ≤ᶠ tol)) ≡ false
+      → Shows n m (firstLinks tol ms xs k) → Shows n m (firstLinks tol ms xs (k + 1))
+  unfolding counts
+  links-left n t s = shows-same (firstLinks tol ms xs (k + 1)) (λ a b ha hb. rw (next-links a b, t, or-false (firstLinks tol ms xs k a b))) s
+
+pub all-links : (n k : ℕ) (tol : Float) (ms : List ℕ) (xs : List Float) {m : List (List ℕ)} → length ms ≡ length xs → length ms ≤ k
+    → Shows n m (firstLinks tol ms xs k) → Shows n m (linkedByRegions tol (regions ms xs))
+all-links n k tol ms xs {m} e h s =
+    subst (λ (rs : List Region). Shows n m (linkedByRegions tol rs)) (take-all k (regions ms xs) (rw (length-regions ms xs e) h)) s
+
+-- ---- links of circles, row by row
+
+test-of-mark : (b : Bool) → not (eqb (mark b) 0) ≡ b
+test-of-mark true = refl
+test-of-mark false = refl
+
+-- row i may be read off column i in the rows before it
+pub met-before : (n i j : ℕ) (cs : List Circle) {m : List (List ℕ)} → i < n → j < i → Shows n m (along (down eqb (meet cs) i) (meet cs i) i j)
+    → not (eqb (cell m j i) 0) ≡ meet cs i j
+met-before n i j cs {m} hi h s =
+    rw (s .cells j i (omega arith) hi, test-of-mark (along (down eqb (meet cs) i) (meet cs i) i j j i), ne-eqb j i (λ e. omega arith), lt-ltb j i h, or-false (meet cs j i))
+    (overlap-swapped (circle cs j) (circle cs i))

@@ -1,0 +1,236 @@
+-- Tables that show a relation: reading, storing, and Warshall's loops in place, one law for each step.
+use Prim.Native.Nat.{ℕ, _+_, _≤_, _<_}
+use native.Mathlib.Omega.{arith}
+use native.Mathlib.Numerals.{add-one}
+use native.Mathlib.Decide.{decLt, ℕ-discrete}
+use mathlib.Core.Path.{_≡_, refl, sym, ap, _∙_, subst}
+use mathlib.Core.Bool.{Bool, true, false, _&&_, _||_, cond, or-false, or-true, and-false}
+use mathlib.Core.List.{List, []}
+use lib.ListN.{length, getD, set, replicate, length-set, length-replicate, getD-replicate}
+use lib.Seq.{getD-set-same, getD-set-other, set-getD}
+use lib.Dec.{T, eqb, ltb}
+use borrow.Author.Tests.{lt-ltb, le-ltb, eq-eqb, ne-eqb}
+use Rattle.scope.specs.Closure.{Marks, at, marked, pass, passes, closure}
+use Rattle.promises.proofs.Cases.{tested, is-true, is-false}
+use Rattle.promises.proofs.Marks.{at-marked}
+use Rattle.clustering.specs.Table.{cell, mark, Shows, Row}
+
+-- ---- reading
+
+pub marked-cell : (b : Bool) (x : ℕ) → x ≡ mark b → (x ≡ 0 → ⊥) → b ≡ true
+marked-cell true x e h = refl
+marked-cell false x e h = absurd (h e)
+
+pub clear-cell : (b : Bool) (x : ℕ) → x ≡ mark b → x ≡ 0 → b ≡ false
+clear-cell true x e h = absurd (omega arith)
+clear-cell false x e h = refl
+
+pub cell-holds : (b : Bool) (x : ℕ) → x ≡ mark b → (x ≡ 0 → ⊥) → T b
+cell-holds b x e h = rw (marked-cell b x e h) tt
+
+pub cell-fails : (b : Bool) (x : ℕ) → x ≡ mark b → x ≡ 0 → ¬ T b
+cell-fails b x e h = rw (clear-cell b x e h) (λ t. t)
+
+-- a relation that agrees is shown as well
+pub shows-same : {n : ℕ} {m : List (List ℕ)} {f : ℕ → ℕ → Bool} (g : ℕ → ℕ → Bool) → ((a b : ℕ) → a < n → b < n → f a b ≡ g a b) → Shows n m f → Shows n m g
+shows-same g e s = record { rows = s .rows; columns = s .columns; cells = λ a b ha hb. s .cells a b ha hb ∙ ap mark (e a b ha hb) }
+
+pub shows-marked : {n : ℕ} {m : List (List ℕ)} (f : ℕ → ℕ → Bool) → Shows n m f → Shows n m (at (marked n f))
+shows-marked {n} f s = shows-same (at (marked n f)) (λ a b ha hb. sym (at-marked n f a b ha hb)) s
+
+pub shows-none : (n r c : ℕ) → n ≤ r → n ≤ c → Shows n (replicate r (replicate c 0)) (λ a b. false)
+shows-none n r c hr hc =
+    let z : ℕ = 0 in
+    record {
+      rows = rw (length-replicate r (replicate c z)) hr;
+      columns = λ i hi. rw (getD-replicate r i (replicate c z) [] (omega arith), length-replicate c z) hc;
+      cells = λ i j hi hj. rw (getD-replicate r i (replicate c z) [] (omega arith), getD-replicate c j z z (omega arith));
+    }
+
+-- ---- storing a mark
+
+abbrev pub put : List (List ℕ) → ℕ → ℕ → ℕ → List (List ℕ)
+put m i j v = set m i (set (getD m i []) j v)
+
+pub shows-put : {n : ℕ} {m : List (List ℕ)} {f : ℕ → ℕ → Bool} (i j : ℕ) (g : ℕ → ℕ → Bool) → i < n → j < n → g i j ≡ true
+    → ((a b : ℕ) → a < n → b < n → (a ≡ i → b ≡ j → ⊥) → f a b ≡ g a b) → Shows n m f → Shows n (put m i j 1) g
+shows-put {n} {m} {f} i j g hi hj t e s =
+    record {
+      rows = rw (length-set m i (set (getD m i []) j 1)) (s .rows);
+      columns = λ a ha. wide a ha (ℕ-discrete a i);
+      cells = λ a b ha hb. at-cell a b ha hb (ℕ-discrete a i) (ℕ-discrete b j);
+    }
+  where
+    here : i < length m
+    here = omega (arith, s .rows)
+
+    there : j < length (getD m i [])
+    there = omega (arith, s .columns i hi)
+
+    wide : (a : ℕ) → a < n → Dec (a ≡ i) → n ≤ length (getD (put m i j 1) a [])
+    wide a ha (yes p) = rw (p, getD-set-same m i (set (getD m i []) j 1) [] here, length-set (getD m i []) j 1) (s .columns i hi)
+    wide a ha (no p) = rw (getD-set-other m i a (set (getD m i []) j 1) [] p) (s .columns a ha)
+
+    at-cell : (a b : ℕ) → a < n → b < n → Dec (a ≡ i) → Dec (b ≡ j) → cell (put m i j 1) a b ≡ mark (g a b)
+    at-cell a b ha hb (yes p) (yes q) = rw (p, q, getD-set-same m i (set (getD m i []) j 1) [] here, getD-set-same (getD m i []) j 1 0 there, t)
+    at-cell a b ha hb (yes p) (no q) =
+        rw (p, getD-set-same m i (set (getD m i []) j 1) [] here, getD-set-other (getD m i []) j b 1 0 q)
+        (s .cells i b hi hb ∙ ap mark (e i b hi hb (λ x y. q y)))
+    at-cell a b ha hb (no p) q =
+        rw (getD-set-other m i a (set (getD m i []) j 1) [] p) (s .cells a b ha hb ∙ ap mark (e a b ha hb (λ x y. p x)))
+
+-- ---- marks added row by row: in row i up to column j where p passes, and in the rows before i where g does
+
+abbrev pub along : (ℕ → ℕ → Bool) → (ℕ → Bool) → ℕ → ℕ → ℕ → ℕ → Bool
+along f p i j a b = f a b || (eqb a i && (ltb b j && p b))
+
+abbrev pub down : (ℕ → ℕ → Bool) → (ℕ → ℕ → Bool) → ℕ → ℕ → ℕ → Bool
+down f g i a b = f a b || (ltb a i && g a b)
+
+ltb-more : (a i : ℕ) → (a ≡ i → ⊥) → ltb a i ≡ ltb a (i + 1)
+ltb-more a i h = elim (decLt a i) [ yes l ↦ lt-ltb a i l ∙ sym (lt-ltb a (i + 1) (omega arith)) | no g ↦ le-ltb a i (omega arith) ∙ sym (le-ltb a (i + 1) (omega arith)) ]
+
+module _ (n : ℕ) (f : ℕ → ℕ → Bool) (p : ℕ → Bool) where
+  pub along-start : (i : ℕ) {m : List (List ℕ)} → Shows n m f → Shows n m (along f p i 0)
+  along-start i s = shows-same (along f p i 0) (λ a b ha hb. rw (le-ltb b 0 (omega arith), and-false (eqb a i), or-false (f a b))) s
+
+  along-other : (i j a b : ℕ) → (a ≡ i → b ≡ j → ⊥) → along f p i j a b ≡ along f p i (j + 1) a b
+  along-other i j a b h = elim (ℕ-discrete a i) [ yes e ↦ rw (ltb-more b j (λ g. h e g)) | no e ↦ rw (ne-eqb a i e) ]
+
+  along-skip : (i j a b : ℕ) → p j ≡ false → along f p i j a b ≡ along f p i (j + 1) a b
+  along-skip i j a b t = elim (ℕ-discrete b j) [ yes e ↦ rw (e, t, and-false (ltb j j), and-false (ltb j (j + 1))) | no e ↦ rw (ltb-more b j e) ]
+
+  pub along-taken : (i j : ℕ) {m : List (List ℕ)} → i < n → j < n → p j ≡ true → Shows n m (along f p i j) → Shows n (put m i j 1) (along f p i (j + 1))
+  along-taken i j hi hj t s =
+      shows-put i j (along f p i (j + 1)) hi hj (rw (eq-eqb i i refl, lt-ltb j (j + 1) (omega arith), t, or-true (f i j))) (λ a b ha hb d. along-other i j a b d) s
+
+  pub along-left : (i j : ℕ) {m : List (List ℕ)} → p j ≡ false → Shows n m (along f p i j) → Shows n m (along f p i (j + 1))
+  along-left i j t s = shows-same (along f p i (j + 1)) (λ a b ha hb. along-skip i j a b t) s
+
+  by-column : (b : Bool) (c v x : ℕ) → c ≡ mark b → v ≡ cond (eqb c 0) x 1 → v ≡ cond b 1 x
+  by-column true c v x e h = rw e at h
+  by-column false c v x e h = rw e at h
+
+  -- a mark where the column has one, and what stood there where it has none
+  pub along-chosen : (i j c v : ℕ) {m : List (List ℕ)} → i < n → j < n → c ≡ mark (p j) → v ≡ cond (eqb c 0) (cell m i j) 1 → Shows n m (along f p i j)
+      → Shows n (put m i j v) (along f p i (j + 1))
+  along-chosen i j c v {m} hi hj k h s =
+      let e = by-column (p j) c v (cell m i j) k h in
+      elim (tested (p j)) [
+        | yes t ↦ rw (e, is-true (p j) t) (along-taken i j hi hj (is-true (p j) t) s)
+        | no t ↦ rw (e, is-false (p j) t, set-getD (getD m i []) j 0, set-getD m i []) (along-left i j (is-false (p j) t) s)
+      ]
+
+module _ (n : ℕ) (f g : ℕ → ℕ → Bool) where
+  pub down-start : {m : List (List ℕ)} → Shows n m f → Shows n m (down f g 0)
+  down-start s = shows-same (down f g 0) (λ a b ha hb. rw (le-ltb a 0 (omega arith), or-false (f a b))) s
+
+  down-skip : (i a b : ℕ) → g i b ≡ false → down f g i a b ≡ down f g (i + 1) a b
+  down-skip i a b t = elim (ℕ-discrete a i) [ yes e ↦ rw (e, t, and-false (ltb i i), and-false (ltb i (i + 1))) | no e ↦ rw (ltb-more a i e) ]
+
+  down-take : (i j a b : ℕ) (p : ℕ → Bool) → b < j → p b ≡ g i b → along (down f g i) p i j a b ≡ down f g (i + 1) a b
+  down-take i j a b p h t =
+      elim (ℕ-discrete a i) [
+        | yes e ↦ rw (e, eq-eqb i i refl, lt-ltb b j h, le-ltb i i (omega arith), lt-ltb i (i + 1) (omega arith), t, or-false (f i b))
+        | no e ↦ rw (ne-eqb a i e, or-false (down f g i a b)) (rw (ltb-more a i e))
+      ]
+
+  -- row i has been passed whole, by a test that agrees with g
+  pub down-taken : (i j : ℕ) (p : ℕ → Bool) {m : List (List ℕ)} → n ≤ j → ((b : ℕ) → p b ≡ g i b)
+      → Shows n m (along (down f g i) p i j) → Shows n m (down f g (i + 1))
+  down-taken i j p hj t s = shows-same (down f g (i + 1)) (λ a b ha hb. down-take i j a b p (omega arith) (t b)) s
+
+  pub down-left : (i : ℕ) {m : List (List ℕ)} → ((b : ℕ) → g i b ≡ false) → Shows n m (down f g i) → Shows n m (down f g (i + 1))
+  down-left i t s = shows-same (down f g (i + 1)) (λ a b ha hb. down-skip i a b (t b)) s
+
+  pub down-end : (i : ℕ) {m : List (List ℕ)} → n ≤ i → Shows n m (down f g i) → Shows n m (λ a b. f a b || g a b)
+  down-end i h s = shows-same (λ a b. f a b || g a b) (λ a b ha hb. rw (lt-ltb a i (omega arith))) s
+
+-- ---- Warshall's pass of k in place: it marks the pairs of column k and row k, and changes neither
+
+abbrev pub through : (ℕ → ℕ → Bool) → ℕ → ℕ → ℕ → Bool
+through f k a b = f a k && f k b
+
+absorbed : (y l z : Bool) → y || (l && (z && y)) ≡ y
+absorbed true l z = refl
+absorbed false true true = refl
+absorbed false true false = refl
+absorbed false false z = refl
+
+module _ (n : ℕ) (f : ℕ → ℕ → Bool) (k : ℕ) (hk : k < n) where
+  row-kept : (i j : ℕ) → along f (f k) i j k j ≡ f k j
+  row-kept i j = rw (le-ltb j j (omega arith), and-false (eqb k i), or-false (f k j))
+
+  column-kept : (i : ℕ) → down f (through f k) i i k ≡ f i k
+  column-kept i = rw (le-ltb i i (omega arith), or-false (f i k))
+
+  pub row-marked : (i j : ℕ) {m : List (List ℕ)} → j < n → Shows n m (along f (f k) i j) → (cell m k j ≡ 0 → ⊥) → f k j ≡ true
+  row-marked i j {m} hj s h = sym (row-kept i j) ∙ marked-cell (along f (f k) i j k j) (cell m k j) (s .cells k j hk hj) h
+
+  pub row-clear : (i j : ℕ) {m : List (List ℕ)} → j < n → Shows n m (along f (f k) i j) → cell m k j ≡ 0 → f k j ≡ false
+  row-clear i j {m} hj s h = sym (row-kept i j) ∙ clear-cell (along f (f k) i j k j) (cell m k j) (s .cells k j hk hj) h
+
+  column-marked : (i : ℕ) {m : List (List ℕ)} → i < n → Shows n m (down f (through f k) i) → (cell m i k ≡ 0 → ⊥) → f i k ≡ true
+  column-marked i {m} hi s h = sym (column-kept i) ∙ marked-cell (down f (through f k) i i k) (cell m i k) (s .cells i k hi hk) h
+
+  column-clear : (i : ℕ) {m : List (List ℕ)} → i < n → Shows n m (down f (through f k) i) → cell m i k ≡ 0 → f i k ≡ false
+  column-clear i {m} hi s h = sym (column-kept i) ∙ clear-cell (down f (through f k) i i k) (cell m i k) (s .cells i k hi hk) h
+
+  row-same : (i b : ℕ) → down f (through f k) i k b ≡ f k b
+  row-same i b = absorbed (f k b) (ltb k i) (f k k)
+
+  -- row i of the pass: where i is marked in column k, row k has been added to it
+  pub row-passed : (i j : ℕ) {m₀ m : List (List ℕ)} → i < n → n ≤ j → Shows n m₀ (down f (through f k) i) → (cell m₀ i k ≡ 0 → ⊥)
+      → Shows n m (along (down f (through f k) i) (down f (through f k) i k) i j) → Shows n m (down f (through f k) (i + 1))
+  row-passed i j hi hj s h t =
+      down-taken n f (through f k) i j (down f (through f k) i k) hj (λ b. row-same i b ∙ ap (λ (x : Bool). x && f k b) (sym (column-marked i hi s h))) t
+
+  pub row-skipped : (i : ℕ) {m : List (List ℕ)} → i < n → Shows n m (down f (through f k) i) → cell m i k ≡ 0 → Shows n m (down f (through f k) (i + 1))
+  row-skipped i hi s h = down-left n f (through f k) i (λ b. ap (λ (x : Bool). x && f k b) (column-clear i hi s h)) s
+
+pub passed : (n k i : ℕ) (t : Marks) {m : List (List ℕ)} → n ≤ i → Shows n m (down (at (passes n k t)) (through (at (passes n k t)) k) i)
+    → Shows n m (at (passes n (k + 1) t))
+unfolding passes pass
+passed n k i t h s =
+    let u = passes n k t in
+    rw add-one (shows-marked (λ a b. at u a b || through (at u) k a b) (down-end n (at u) (through (at u) k) i h s))
+
+pub none-passed : (n : ℕ) (t : Marks) {m : List (List ℕ)} → Shows n m (at t) → Shows n m (at (passes n 0 t))
+unfolding passes
+none-passed n t s = s
+
+pub all-passed : (n k : ℕ) (t : Marks) {m : List (List ℕ)} → k ≤ n → n ≤ k → Shows n m (at (passes n k t)) → Shows n m (at (closure n t))
+unfolding closure
+all-passed n k t {m} h g s = let e : k ≡ n = omega arith in subst (λ (x : ℕ). Shows n m (at (passes n x t))) e s
+
+-- ---- one row, cell by cell
+
+-- the first j cells are marked where p passes; the rest is still 0
+pub record RowSoFar (room j : ℕ) (p : ℕ → Bool) (row : List ℕ) : Type 0 where
+  pub long : length row ≡ room
+  pub first : Row j row p
+  pub rest : (k : ℕ) → j ≤ k → k < room → getD row k 0 ≡ 0
+
+module _ (room : ℕ) (p : ℕ → Bool) where
+  pub row-none : RowSoFar room 0 p (replicate room 0)
+  row-none = record { long = length-replicate room 0; first = λ k h. absurd (omega arith); rest = λ k l h. getD-replicate room k 0 0 h }
+
+  pub row-taken : (j : ℕ) (row : List ℕ) → j < room → p j ≡ true → RowSoFar room j p row → RowSoFar room (j + 1) p (set row j 1)
+  row-taken j row h t s =
+      record {
+        long = rw (length-set row j 1) (s .long);
+        first = λ k l.
+            elim (ℕ-discrete k j) [
+              | yes e ↦ rw (e, getD-set-same row j 1 0 (omega (arith, s .long)), t)
+              | no e ↦ rw (getD-set-other row j k 1 0 e) (s .first k (omega arith))
+            ];
+        rest = λ k l g. let other : k ≡ j → ⊥ = λ e. absurd (omega arith) in rw (getD-set-other row j k 1 0 other) (s .rest k (omega arith) g);
+      }
+
+  pub row-left : (j : ℕ) (row : List ℕ) → j < room → p j ≡ false → RowSoFar room j p row → RowSoFar room (j + 1) p row
+  row-left j row h t s =
+      record {
+        long = s .long;
+        first = λ k l. elim (ℕ-discrete k j) [ yes e ↦ rw (e, t) (s .rest j (omega arith) h) | no e ↦ s .first k (omega arith) ];
+        rest = λ k l g. s .rest k (omega arith) g;
+      }

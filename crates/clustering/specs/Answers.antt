@@ -1,0 +1,27 @@
+-- The answers of the clusterings as document 01's record, and what their numbers mean.
+use Prim.Native.Nat.{ℕ, _<_}
+use mathlib.Core.Path.{_≡_}
+use mathlib.Core.Logic.{_↔_, _⊎_}
+use mathlib.Core.Bool.{cond}
+use mathlib.Core.List.{List}
+use lib.ListN.{getD, take}
+use lib.Ieee.{Float}
+use Rattle.shapes.specs.declared.geometry.shapes.circle.Circle.{Circle}
+use Rattle.scope.specs.Refusals.{tooMany}
+use Rattle.scope.specs.Links.{Region}
+use Rattle.scope.specs.Groups.{Grouping, plainClusters, grouping, plainGrouping}
+use Rattle.scope.specs.Promises.{Chain}
+use Rattle.clustering.specs.declared.Clusters.{Clusters}
+
+abbrev pub grouped : Clusters → Grouping
+grouped r = record { refusal = r .refusal; count = r .count; numbers = r .numbers }
+
+-- two circles have one number exactly if they are the same or a chain of regions joins them
+abbrev pub NumbersByChains : ℕ → Float → List Region → List ℕ → Type 0
+NumbersByChains n tol rs numbers = (i j : ℕ) → i < n → j < n → (getD numbers i 0 ≡ getD numbers j 0) ↔ ((i ≡ j) ⊎ Chain n tol rs i j)
+
+-- the plain clustering of the first n circles; a count above the cap is refused, and no circle looked at
+unfoldable pub firstGrouping : ℕ → List Circle → Grouping
+firstGrouping n cs =
+    let first = take n cs in
+    cond (tooMany n) (grouping 1 (plainClusters first)) (plainGrouping first)
