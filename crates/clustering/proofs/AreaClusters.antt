@@ -7,9 +7,8 @@ use lib.Ieee.{Float}
 use Rattle.scope.specs.Runs.{filled}
 use Rattle.scope.specs.Limits.{circleCap}
 use Rattle.scope.specs.Refusals.{regionsRefusal}
-use Rattle.scope.specs.Links.{regions, linkedByRegions}
-use Rattle.scope.specs.Closure.{marked, closure}
-use Rattle.scope.specs.Groups.{clusters, clustersOf, Grouping, grouping, areaGrouping}
+use Rattle.scope.specs.Links.{regions}
+use Rattle.scope.specs.Groups.{clusters, Grouping, grouping, areaGrouping}
 use Rattle.promises.proofs.Accepted.{not-too-many-iff, not-unequal-iff}
 use Rattle.promises.proofs.EntryPoints.{regions-reads}
 use Rattle.promises.proofs.AfterRefusal.{area-grouping-answers}
@@ -24,8 +23,8 @@ module _ (n : ℕ) (masks : List ℕ) (areas : List Float) where
   regions-equal h = not-unequal-iff masks areas .0 (regions-reads n masks areas .accepted .0 h .1 .0)
 
   pub area-accepted : (tol : Float) → regionsRefusal n masks areas ≡ 0
-      → grouping 0 (clustersOf n (closure n (marked n (linkedByRegions tol (regions masks areas))))) ≡ areaGrouping n masks areas tol
-  unfolding areaGrouping clusters
+      → grouping 0 (clusters n (regions masks areas) tol) ≡ areaGrouping n masks areas tol
+  unfolding areaGrouping
   area-accepted tol h = rw h
 
   -- the numbers of an accepted answer

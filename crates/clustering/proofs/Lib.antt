@@ -4,3 +4,4 @@ pub mod Linking
 pub mod Numbering
 pub mod AreaClusters
 pub mod PlainClusters
+pub mod Tolerances

@@ -6,7 +6,7 @@ use native.Mathlib.Decide.{decLt, ℕ-discrete}
 use mathlib.Core.Path.{_≡_, refl, sym, _∙_, subst}
 use mathlib.Core.Bool.{Bool, true, false, not, _&&_, _||_, or-assoc, or-false, and-false, and-true}
 use mathlib.Core.List.{List, [], _∷_}
-use lib.ListN.{length, getD, take, replicate}
+use lib.ListN.{length, getD, take}
 use lib.Seq.{take-suc, take-all}
 use lib.Dec.{eqb, ltb}
 use lib.Ieee.{Float, nan}
@@ -21,14 +21,14 @@ use Rattle.promises.proofs.OneMoreRegion.{share-append}
 use Rattle.promises.proofs.Overlap.{overlap-swapped}
 use Rattle.promises.proofs.Clusters.{meet}
 use Rattle.clustering.specs.Table.{cell, mark, Shows}
-use Rattle.clustering.proofs.Table.{shows-same, shows-none, put, shows-put, along, down}
+use Rattle.clustering.proofs.Table.{shows-same, put, shows-put, along, down}
 
 -- ---- each circle linked to itself, as far as circle i
 abbrev pub diagonal : ℕ → ℕ → ℕ → Bool
 diagonal i a b = eqb a b && ltb a i
 
-pub diagonal-start : (n r c : ℕ) → n ≤ r → n ≤ c → Shows n (replicate r (replicate c 0)) (diagonal 0)
-diagonal-start n r c hr hc = shows-same (diagonal 0) (λ a b ha hb. rw (le-ltb a 0 (omega arith), and-false (eqb a b))) (shows-none n r c hr hc)
+pub diagonal-start : (n : ℕ) {m : List (List ℕ)} → Shows n m (λ a b. false) → Shows n m (diagonal 0)
+diagonal-start n s = shows-same (diagonal 0) (λ a b ha hb. rw (le-ltb a 0 (omega arith), and-false (eqb a b))) s
 
 diagonal-other : (i a b : ℕ) → (a ≡ i → b ≡ i → ⊥) → diagonal i a b ≡ diagonal (i + 1) a b
 diagonal-other i a b h =
@@ -44,7 +44,7 @@ diagonal-other i a b h =
 
 pub diagonal-step : (n i : ℕ) {m : List (List ℕ)} → i < n → Shows n m (diagonal i) → Shows n (put m i i 1) (diagonal (i + 1))
 diagonal-step n i hi s =
-    shows-put i i (diagonal (i + 1)) hi hi (rw (eq-eqb i i refl, lt-ltb i (i + 1) (omega arith))) (λ a b ha hb h. diagonal-other i a b h) s
+    shows-put i i 1 (diagonal (i + 1)) hi (λ _. rw (eq-eqb i i refl, lt-ltb i (i + 1) (omega arith))) (λ a b ha hb h. diagonal-other i a b h) s
 
 pub diagonal-end : (n i : ℕ) {m : List (List ℕ)} → n ≤ i → Shows n m (diagonal i) → Shows n m eqb
 diagonal-end n i h s = shows-same eqb (λ a b ha hb. rw (lt-ltb a i (omega arith)) (and-true (eqb a b))) s

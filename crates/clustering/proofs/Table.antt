@@ -4,14 +4,14 @@ use native.Mathlib.Omega.{arith}
 use native.Mathlib.Numerals.{add-one}
 use native.Mathlib.Decide.{decLt, ℕ-discrete}
 use mathlib.Core.Path.{_≡_, refl, sym, ap, _∙_, subst}
-use mathlib.Core.Bool.{Bool, true, false, _&&_, _||_, cond, or-false, or-true, and-false}
+use mathlib.Core.Bool.{Bool, true, false, _&&_, _||_, or-false, or-true, and-false}
 use mathlib.Core.List.{List, []}
 use lib.ListN.{length, getD, set, replicate, length-set, length-replicate, getD-replicate}
-use lib.Seq.{getD-set-same, getD-set-other, set-getD}
+use lib.Bits.{bitOr}
+use lib.Seq.{getD-set-same, getD-set-other}
 use lib.Dec.{T, eqb, ltb}
 use borrow.Author.Tests.{lt-ltb, le-ltb, eq-eqb, ne-eqb}
 use Rattle.scope.specs.Closure.{Marks, at, marked, pass, passes, closure}
-use Rattle.promises.proofs.Cases.{tested, is-true, is-false}
 use Rattle.promises.proofs.Marks.{at-marked}
 use Rattle.clustering.specs.Table.{cell, mark, Shows, Row}
 
@@ -52,11 +52,12 @@ shows-none n r c hr hc =
 abbrev pub put : List (List ℕ) → ℕ → ℕ → ℕ → List (List ℕ)
 put m i j v = set m i (set (getD m i []) j v)
 
-pub shows-put : {n : ℕ} {m : List (List ℕ)} {f : ℕ → ℕ → Bool} (i j : ℕ) (g : ℕ → ℕ → Bool) → i < n → j < n → g i j ≡ true
-    → ((a b : ℕ) → a < n → b < n → (a ≡ i → b ≡ j → ⊥) → f a b ≡ g a b) → Shows n m f → Shows n (put m i j 1) g
-shows-put {n} {m} {f} i j g hi hj t e s =
+-- past the first n columns it does not matter what is stored
+pub shows-put : {n : ℕ} {m : List (List ℕ)} {f : ℕ → ℕ → Bool} (i j v : ℕ) (g : ℕ → ℕ → Bool) → i < n → (j < n → v ≡ mark (g i j))
+    → ((a b : ℕ) → a < n → b < n → (a ≡ i → b ≡ j → ⊥) → f a b ≡ g a b) → Shows n m f → Shows n (put m i j v) g
+shows-put {n} {m} {f} i j v g hi t e s =
     record {
-      rows = rw (length-set m i (set (getD m i []) j 1)) (s .rows);
+      rows = rw (length-set m i (set (getD m i []) j v)) (s .rows);
       columns = λ a ha. wide a ha (ℕ-discrete a i);
       cells = λ a b ha hb. at-cell a b ha hb (ℕ-discrete a i) (ℕ-discrete b j);
     }
@@ -64,20 +65,26 @@ shows-put {n} {m} {f} i j g hi hj t e s =
     here : i < length m
     here = omega (arith, s .rows)
 
-    there : j < length (getD m i [])
-    there = omega (arith, s .columns i hi)
+    wide : (a : ℕ) → a < n → Dec (a ≡ i) → n ≤ length (getD (put m i j v) a [])
+    wide a ha (yes p) = rw (p, getD-set-same m i (set (getD m i []) j v) [] here, length-set (getD m i []) j v) (s .columns i hi)
+    wide a ha (no p) = rw (getD-set-other m i a (set (getD m i []) j v) [] p) (s .columns a ha)
 
-    wide : (a : ℕ) → a < n → Dec (a ≡ i) → n ≤ length (getD (put m i j 1) a [])
-    wide a ha (yes p) = rw (p, getD-set-same m i (set (getD m i []) j 1) [] here, length-set (getD m i []) j 1) (s .columns i hi)
-    wide a ha (no p) = rw (getD-set-other m i a (set (getD m i []) j 1) [] p) (s .columns a ha)
-
-    at-cell : (a b : ℕ) → a < n → b < n → Dec (a ≡ i) → Dec (b ≡ j) → cell (put m i j 1) a b ≡ mark (g a b)
-    at-cell a b ha hb (yes p) (yes q) = rw (p, q, getD-set-same m i (set (getD m i []) j 1) [] here, getD-set-same (getD m i []) j 1 0 there, t)
+    at-cell : (a b : ℕ) → a < n → b < n → Dec (a ≡ i) → Dec (b ≡ j) → cell (put m i j v) a b ≡ mark (g a b)
+    at-cell a b ha hb (yes p) (yes q) =
+        let there : j < length (getD m i []) = omega (arith, s .columns i hi) in
+        rw (p, q, getD-set-same m i (set (getD m i []) j v) [] here, getD-set-same (getD m i []) j v 0 there) (t (omega arith))
     at-cell a b ha hb (yes p) (no q) =
-        rw (p, getD-set-same m i (set (getD m i []) j 1) [] here, getD-set-other (getD m i []) j b 1 0 q)
+        rw (p, getD-set-same m i (set (getD m i []) j v) [] here, getD-set-other (getD m i []) j b v 0 q)
         (s .cells i b hi hb ∙ ap mark (e i b hi hb (λ x y. q y)))
     at-cell a b ha hb (no p) q =
-        rw (getD-set-other m i a (set (getD m i []) j 1) [] p) (s .cells a b ha hb ∙ ap mark (e a b ha hb (λ x y. p x)))
+        rw (getD-set-other m i a (set (getD m i []) j v) [] p) (s .cells a b ha hb ∙ ap mark (e a b ha hb (λ x y. p x)))
+
+-- two marks joined
+joined-marks : (a b : Bool) → bitOr (mark a) (mark b) ≡ mark (a || b)
+joined-marks true true = refl
+joined-marks true false = refl
+joined-marks false true = refl
+joined-marks false false = refl
 
 -- ---- marks added row by row: in row i up to column j where p passes, and in the rows before i where g does
 
@@ -100,26 +107,19 @@ module _ (n : ℕ) (f : ℕ → ℕ → Bool) (p : ℕ → Bool) where
   along-skip : (i j a b : ℕ) → p j ≡ false → along f p i j a b ≡ along f p i (j + 1) a b
   along-skip i j a b t = elim (ℕ-discrete b j) [ yes e ↦ rw (e, t, and-false (ltb j j), and-false (ltb j (j + 1))) | no e ↦ rw (ltb-more b j e) ]
 
-  pub along-taken : (i j : ℕ) {m : List (List ℕ)} → i < n → j < n → p j ≡ true → Shows n m (along f p i j) → Shows n (put m i j 1) (along f p i (j + 1))
-  along-taken i j hi hj t s =
-      shows-put i j (along f p i (j + 1)) hi hj (rw (eq-eqb i i refl, lt-ltb j (j + 1) (omega arith), t, or-true (f i j))) (λ a b ha hb d. along-other i j a b d) s
+  pub along-taken : (i j : ℕ) {m : List (List ℕ)} → i < n → p j ≡ true → Shows n m (along f p i j) → Shows n (put m i j 1) (along f p i (j + 1))
+  along-taken i j hi t s =
+      shows-put i j 1 (along f p i (j + 1)) hi (λ hj. rw (eq-eqb i i refl, lt-ltb j (j + 1) (omega arith), t, or-true (f i j))) (λ a b ha hb d. along-other i j a b d) s
 
   pub along-left : (i j : ℕ) {m : List (List ℕ)} → p j ≡ false → Shows n m (along f p i j) → Shows n m (along f p i (j + 1))
   along-left i j t s = shows-same (along f p i (j + 1)) (λ a b ha hb. along-skip i j a b t) s
 
-  by-column : (b : Bool) (c v x : ℕ) → c ≡ mark b → v ≡ cond (eqb c 0) x 1 → v ≡ cond b 1 x
-  by-column true c v x e h = rw e at h
-  by-column false c v x e h = rw e at h
-
-  -- a mark where the column has one, and what stood there where it has none
-  pub along-chosen : (i j c v : ℕ) {m : List (List ℕ)} → i < n → j < n → c ≡ mark (p j) → v ≡ cond (eqb c 0) (cell m i j) 1 → Shows n m (along f p i j)
-      → Shows n (put m i j v) (along f p i (j + 1))
-  along-chosen i j c v {m} hi hj k h s =
-      let e = by-column (p j) c v (cell m i j) k h in
-      elim (tested (p j)) [
-        | yes t ↦ rw (e, is-true (p j) t) (along-taken i j hi hj (is-true (p j) t) s)
-        | no t ↦ rw (e, is-false (p j) t, set-getD (getD m i []) j 0, set-getD m i []) (along-left i j (is-false (p j) t) s)
-      ]
+  -- a mark joined with one that says whether p passes
+  pub along-joined : (i j c : ℕ) {m : List (List ℕ)} → i < n → (j < n → c ≡ mark (p j)) → Shows n m (along f p i j) → Shows n (put m i j (bitOr (cell m i j) c)) (along f p i (j + 1))
+  along-joined i j c hi k s =
+      shows-put i j _ (along f p i (j + 1)) hi
+      (λ hj. rw (s .cells i j hi hj, k hj, eq-eqb i i refl, le-ltb j j (omega arith), or-false (f i j), lt-ltb j (j + 1) (omega arith)) (joined-marks (f i j) (p j)))
+      (λ a b ha hb d. along-other i j a b d) s
 
 module _ (n : ℕ) (f g : ℕ → ℕ → Bool) where
   pub down-start : {m : List (List ℕ)} → Shows n m f → Shows n m (down f g 0)
@@ -164,11 +164,8 @@ module _ (n : ℕ) (f : ℕ → ℕ → Bool) (k : ℕ) (hk : k < n) where
   column-kept : (i : ℕ) → down f (through f k) i i k ≡ f i k
   column-kept i = rw (le-ltb i i (omega arith), or-false (f i k))
 
-  pub row-marked : (i j : ℕ) {m : List (List ℕ)} → j < n → Shows n m (along f (f k) i j) → (cell m k j ≡ 0 → ⊥) → f k j ≡ true
-  row-marked i j {m} hj s h = sym (row-kept i j) ∙ marked-cell (along f (f k) i j k j) (cell m k j) (s .cells k j hk hj) h
-
-  pub row-clear : (i j : ℕ) {m : List (List ℕ)} → j < n → Shows n m (along f (f k) i j) → cell m k j ≡ 0 → f k j ≡ false
-  row-clear i j {m} hj s h = sym (row-kept i j) ∙ clear-cell (along f (f k) i j k j) (cell m k j) (s .cells k j hk hj) h
+  pub row-mark : (i j : ℕ) {m : List (List ℕ)} → j < n → Shows n m (along f (f k) i j) → cell m k j ≡ mark (f k j)
+  row-mark i j hj s = s .cells k j hk hj ∙ ap mark (row-kept i j)
 
   column-marked : (i : ℕ) {m : List (List ℕ)} → i < n → Shows n m (down f (through f k) i) → (cell m i k ≡ 0 → ⊥) → f i k ≡ true
   column-marked i {m} hi s h = sym (column-kept i) ∙ marked-cell (down f (through f k) i i k) (cell m i k) (s .cells i k hi hk) h

@@ -11,6 +11,7 @@ use Rattle.scope.specs.Refusals.{tooMany}
 use Rattle.scope.specs.Links.{Region}
 use Rattle.scope.specs.Groups.{Grouping, plainClusters, grouping, plainGrouping}
 use Rattle.scope.specs.Promises.{Chain}
+use Rattle.intake.specs.CauseWords.{front}
 use Rattle.clustering.specs.declared.Clusters.{Clusters}
 
 abbrev pub grouped : Clusters → Grouping
@@ -20,8 +21,14 @@ grouped r = record { refusal = r .refusal; count = r .count; numbers = r .number
 abbrev pub NumbersByChains : ℕ → Float → List Region → List ℕ → Type 0
 NumbersByChains n tol rs numbers = (i j : ℕ) → i < n → j < n → (getD numbers i 0 ≡ getD numbers j 0) ↔ ((i ≡ j) ⊎ Chain n tol rs i j)
 
--- the plain clustering of the first n circles; a count above the cap is refused, and no circle looked at
-unfoldable pub firstGrouping : ℕ → List Circle → Grouping
-firstGrouping n cs =
-    let first = take n cs in
-    cond (tooMany n) (grouping 1 (plainClusters first)) (plainGrouping first)
+-- the plain clustering of n circles; a count above the cap is refused, and no circle looked at
+unfoldable pub countedGrouping : ℕ → List Circle → Grouping
+countedGrouping n cs = cond (tooMany n) (grouping 1 (plainClusters cs)) (plainGrouping cs)
+
+-- of the first n circles of an array
+abbrev pub firstGrouping : ℕ → List Circle → Grouping
+firstGrouping n cs = countedGrouping n (take n cs)
+
+-- and of the circles that the first n numbers of three arrays show
+abbrev pub shownGrouping : ℕ → List Float → List Float → List Float → Grouping
+shownGrouping n xs ys rs = countedGrouping n (front n xs ys rs)

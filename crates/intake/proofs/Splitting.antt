@@ -5,12 +5,16 @@ use native.Mathlib.Numerals.{add-one}
 use mathlib.Core.Path.{_≡_, refl, _∙_}
 use mathlib.Core.Bool.{Bool, true, false, cond}
 use mathlib.Core.List.{List}
-use lib.ListN.{length, getD, set}
-use lib.Seq.{take-all}
+use lib.ListN.{length, getD, set, take, drop}
+use lib.Seq.{take-all, take-at}
+use lib.Ieee.{Float}
+use Rattle.shapes.specs.declared.geometry.shapes.circle.Circle.{Circle}
 use Rattle.scope.specs.Limits.{circleCap}
 use Rattle.scope.specs.Refusals.{tooMany}
 use Rattle.intake.specs.Limits.{maxCircles}
-use Rattle.intake.specs.Columns.{overwritten}
+use Rattle.intake.specs.CauseWords.{front}
+use Rattle.intake.specs.Columns.{xsOf, ysOf, radiiOf, overwritten}
+use Rattle.intake.proofs.Columns.{length-xs, length-ys, length-radii, shown-back}
 use Rattle.intake.proofs.Checking.{few}
 use Rattle.intake.proofs.Loading.{over, over-next}
 use Rattle.intake.proofs.InPlace.{over-length}
@@ -64,3 +68,13 @@ module _ {A B : Type 0} (f : A → B) (n : ℕ) (cs : List A) (d : A) (e : B) (c
   pub front-all : (i : ℕ) {m : List B} → i ≤ n → n ≤ i → m ≡ over i col zs → m ≡ overwritten col zs
   unfolding overwritten
   front-all i low high q = let all : i ≡ n = omega arith in q ∙ rw (all, long, take-all n col (rw long (omega arith)))
+
+-- ---- and back: a column out of its array, and circles out of three
+pub front-of-column : {A : Type 0} (n : ℕ) (col zs : List A) → length col ≡ n → take n (overwritten col zs) ≡ col
+unfolding overwritten
+front-of-column n col zs e = take-at col (drop (length col) zs) n e
+
+pub front-shown : (n : ℕ) (cs : List Circle) (xs ys rs : List Float) → length cs ≡ n → front n (overwritten (xsOf cs) xs) (overwritten (ysOf cs) ys) (overwritten (radiiOf cs) rs) ≡ cs
+front-shown n cs xs ys rs e =
+    rw (front-of-column n (xsOf cs) xs (length-xs cs ∙ e), front-of-column n (ysOf cs) ys (length-ys cs ∙ e), front-of-column n (radiiOf cs) rs (length-radii cs ∙ e))
+    (shown-back cs)

@@ -1,7 +1,7 @@
 -- `find_clusters` meets its contract: a walk of its code by hand. The run is shared: one part goes to `split`, one stays. The local arrays are lent to `split` to be written,
 -- and to the core to be read, each for a lifetime of the call. Of the two it knows the contracts alone.
 use Prim.Native.Nat.{ℕ}
-use mathlib.Core.Path.{refl}
+use mathlib.Core.Path.{_≡_, refl, _∙_}
 use mathlib.Core.List.{List, [], _∷_}
 use lib.Ieee.{Float}
 use lib.ListN.{length}
@@ -48,22 +48,23 @@ use Rattle.intake.proofs.Lending.{refTo, lent-to-read, read-back}
 use Rattle.intake.proofs.NumberArrays.{F64s, blank, blanks, blank-is, numbersTy, same-typed, same-lies, array-room}
 use Rattle.intake.proofs.Splitting.{splitOf}
 use Rattle.intake.proofs.SplitCall.{Split, splits-lent}
-use Rattle.runs.specs.Clustering.{Clustered, Clusters as Groups}
-use Rattle.runs.proofs.RunClusters.{clustered-groups}
-use Rattle.runs.specs.declared.clustering.Clusters.{Clusters}
-use Rattle.runs.proofs.clustering.Clusters as R
-use Rattle.runs.proofs.clustering.Clusters.Laws as R′
+use Rattle.scope.specs.Groups.{plainGrouping}
+use Rattle.clustering.specs.Answers.{grouped, shownGrouping}
+use Rattle.clustering.proofs.PlainClusters.{split-grouping, whole-grouping}
+use Rattle.clustering.specs.declared.Clusters.{Clusters}
+use Rattle.clustering.proofs.Clusters as R
+use Rattle.clustering.proofs.Clusters.Laws as R′
 use Rattle.intake.proofs.runs.split.Symbol as split-def
 use Rattle.intake.proofs.runs.split.Symbol.{name as #split}
 use Rattle.intake.proofs.runs.split.Met as split-thm
-use Rattle.runs.proofs.clustering.clusters_at as core
-use Rattle.runs.proofs.clustering.clusters_at.Symbol as core-def
-use Rattle.runs.proofs.clustering.clusters_at.Symbol.{name as #core}
-use Rattle.runs.proofs.clustering.clusters_at.Met as core-thm
-use Rattle.runs.proofs.clustering.find_clusters.Key.{name as #call}
-use Rattle.runs.proofs.clustering.find_clusters as thin
-use Rattle.runs.proofs.clustering.find_clusters.Statement as stated
-use Rattle.runs.proofs.clustering.find_clusters.Code as code
+use Rattle.clustering.proofs.clusters_at as core
+use Rattle.clustering.proofs.clusters_at.Symbol as core-def
+use Rattle.clustering.proofs.clusters_at.Symbol.{name as #core}
+use Rattle.clustering.proofs.clusters_at.Met as core-thm
+use Rattle.clustering.proofs.find_clusters.Key.{name as #call}
+use Rattle.clustering.proofs.find_clusters as thin
+use Rattle.clustering.proofs.find_clusters.Statement as stated
+use Rattle.clustering.proofs.find_clusters.Code as code
 
 abbrev stayed : Stays (thin.ended .signature .params) (thin.ended .kept)
 stayed = (stay-none-slice (0 ∷ []) tt (plain (λ _. T.the-row)) yes, tt)
@@ -104,10 +105,10 @@ module _ {M : Type 1} (𝓤 : URA M) (H : Heap 𝓤) (A : Atoms 𝓤) (W : Given
 
   -- what the core says of its answer, and what follows for the run
   abbrev Solved : Clusters → Type 0
-  Solved r = Clustered (splitOf xsOf ys zeros) (splitOf ysOf ys zeros) (splitOf radiiOf ys zeros) n r
+  Solved r = grouped r ≡ shownGrouping n (splitOf xsOf ys zeros) (splitOf ysOf ys zeros) (splitOf radiiOf ys zeros)
 
-  answers : (r : Clusters) → Solved r → Groups ys r
-  answers r e = clustered-groups ys r e
+  answers : (r : Clusters) → Solved r → grouped r ≡ plainGrouping ys
+  answers r e = e ∙ split-grouping n ys zeros zeros zeros (λ _. refl) ∙ whole-grouping ys
 
   -- what the core asks, of the arrays at their places, each lent for a lifetime under a name
   module _ (b₀ b₁ b₂ : ℕ) (ν₀ ν₁ ν₂ : ℕ) (δ₀ δ₁ δ₂ : GName) where
@@ -129,7 +130,7 @@ module _ {M : Type 1} (𝓤 : URA M) (H : Heap 𝓤) (A : Atoms 𝓤) (W : Given
     goes-core : ent 𝓤 (⋆ 𝓤 H A Handed) (Core 𝓤 H A at-mem run .pre to-core)
     goes-core = qed W Handed ∵ owned ! usize (Is usize) (uint-makes 𝓤 H A W w64) n _ (refl, gn .0) $ move ! (0 ∷ 7 ∷ []) $ fjoin ! $ move ! (5 ∷ 0 ∷ []) $ fjoin ! $ move ! (3 ∷ 0 ∷ []) $ fjoin ! $ move ! (1 ∷ 0 ∷ []) $ fjoin ! $ nothing ! $ move ! (4 ∷ 0 ∷ []) $ join ! $ move ! (3 ∷ 0 ∷ []) $ join ! $ move ! (2 ∷ 0 ∷ []) $ join ! $ join ! $ frame ! $ done !
 
-  exits : (r : Clusters) (v : Val) → Groups ys r → ent 𝓤 (⋆ 𝓤 H A (‵ (flft κ q) ∷ ‵ Lent ∷ ‵ Rest ∷ ‵ (R.the-row .own r (v ∷ [])) ∷ [])) (Post v)
+  exits : (r : Clusters) (v : Val) → grouped r ≡ plainGrouping ys → ent 𝓤 (⋆ 𝓤 H A (‵ (flft κ q) ∷ ‵ Lent ∷ ‵ Rest ∷ ‵ (R.the-row .own r (v ∷ [])) ∷ [])) (Post v)
   exits r v e =
       qed W (‵ (flft κ q) ∷ ‵ Lent ∷ ‵ Rest ∷ ‵ (R.the-row .own r (v ∷ [])) ∷ []) ∵
       suffices ! _ (ends-at 𝓤 H A thin.ended stayed (thin.clauses 𝓤 H A at-mem run) W (((κ, tt), (q, tt), tt, (x, tt), at), tt) v r (tt, tt) (tt, tt)) $ says ! e $ nothing ! $ move ! (1 ∷ 0 ∷ []) $ join ! $ frame ! $ fjoin ! $ frame ! $ done !
@@ -192,4 +193,4 @@ find-clusters-spec 𝓤 H 𝓜 𝓖 𝓡 =
     (tables 𝓤 H 𝓜 𝓡 code.env .C) (tables 𝓤 H 𝓜 𝓡 code.env .Λ) #call code.function (code.unfolded 𝓤 H 𝓜 𝓡)
     (thin-meets 𝓤 H (𝓖 .A) (givenOf 𝓤 H 𝓜 𝓖) (𝓜 .mem) (𝓡 .run) (tablesOf 𝓤 H 𝓜 (tables 𝓤 H 𝓜 𝓡 code.env))
     (cited 𝓤 H (Split 𝓤 H (𝓖 .A) (𝓜 .mem) (𝓡 .run)) 𝓜 𝓡 code.env #split split-def.routine code.calls-intake·runs·split (split-thm.met 𝓤 H 𝓜 𝓖 𝓡))
-    (cited 𝓤 H (Core 𝓤 H (𝓖 .A) (𝓜 .mem) (𝓡 .run)) 𝓜 𝓡 code.env #core core-def.routine code.calls-runs·clustering·clusters-at (core-thm.met 𝓤 H 𝓜 𝓖 𝓡)))
+    (cited 𝓤 H (Core 𝓤 H (𝓖 .A) (𝓜 .mem) (𝓡 .run)) 𝓜 𝓡 code.env #core core-def.routine code.calls-clustering·clusters-at (core-thm.met 𝓤 H 𝓜 𝓖 𝓡)))

@@ -11,16 +11,13 @@ use Rattle.clustering.proofs.link_regions.Statement.{statement}
 use Rattle.clustering.proofs.link_regions.Tie as tie
 
 abbrev Inv-loop : tie.InvT-loop
-Inv-loop n masks areas tolerance m₀ k₀ m k = (k ≤ length masks) × Shows n m (firstLinks tolerance masks areas k)
+Inv-loop m₀ n masks areas tolerance k₀ m k = (k ≤ length masks) × Shows n m (firstLinks tolerance masks areas k)
 
 abbrev μ-loop : tie.MeasureT-loop
-μ-loop n masks areas tolerance m₀ k₀ m k = length masks - k
-
-unlinked-requires : tie.Need-unlinked-requires Inv-loop μ-loop
-unlinked-requires c κs = omega arith
+μ-loop m₀ n masks areas tolerance k₀ m k = length masks - k
 
 loop-holds : tie.Need-loop-holds Inv-loop μ-loop
-loop-holds c = let a = c .before .before .before .args in (omega arith, no-links _ _ (a .masks .now) (a .areas .now) (c .unlinked .ensures))
+loop-holds c = let s = c .before .before in (omega arith, no-links _ _ (s .args .masks .now) (s .args .areas .now) (s .pre .2))
 
 mul-exceeds : tie.Need-mul-exceeds Inv-loop μ-loop
 mul-exceeds c = omega arith
@@ -51,7 +48,7 @@ loop-again c =
     let q = c .before .before .before in
     let h = q .loop-test .taken in
     let s = q .before .loop .inv .1 in
-    let r = q .before .before .before .before .before in
+    let r = q .before .before .before .before in
     let p = r .pre in
     let e = sym (c .before .exceeds .ensures) in (
       omega arith,
@@ -62,7 +59,7 @@ loop-again c =
     )
 
 returns : tie.Need-returns Inv-loop μ-loop
-returns c = all-links _ _ _ _ _ (c .before .before .before .before .before .pre .1) (c .loop-test .left) (c .before .loop .inv .1)
+returns c = all-links _ _ _ _ _ (c .before .before .before .before .pre .1) (c .loop-test .left) (c .before .loop .inv .1)
 
 pub link-regions-spec : {M : Type 1} → statement M
 link-regions-spec =
@@ -70,7 +67,6 @@ link-regions-spec =
     (tie.spec
     Inv-loop
     μ-loop
-    unlinked-requires
     loop-holds
     mul-exceeds
     shared-slice-read-exceeds

@@ -1,20 +1,19 @@
 -- `link_selves` meets its contract, circle by circle.
 use Prim.Native.Nat.{_-_, _≤_}
 use native.Mathlib.Omega.{arith}
-use Rattle.intake.specs.Limits.{maxCircles}
 use Rattle.clustering.specs.Table.{Shows}
 use Rattle.clustering.proofs.Linking.{diagonal, diagonal-start, diagonal-step, diagonal-end}
 use Rattle.clustering.proofs.link_selves.Statement.{statement}
 use Rattle.clustering.proofs.link_selves.Tie as tie
 
 abbrev Inv-loop : tie.InvT-loop
-Inv-loop n m₀ i₀ m i = (i ≤ n) × Shows n m (diagonal i)
+Inv-loop m₀ n i₀ m i = (i ≤ n) × Shows n m (diagonal i)
 
 abbrev μ-loop : tie.MeasureT-loop
-μ-loop n m₀ i₀ m i = n - i
+μ-loop m₀ n i₀ m i = n - i
 
 loop-holds : tie.Need-loop-holds Inv-loop μ-loop
-loop-holds c = (omega arith, diagonal-start _ maxCircles maxCircles (omega arith) (omega arith))
+loop-holds c = (omega arith, diagonal-start _ (c .pre .1))
 
 mul-m : tie.Need-mul-m Inv-loop μ-loop
 mul-m c = omega arith
@@ -37,8 +36,8 @@ loop-again c = (omega arith, diagonal-step _ _ (c .loop-test .taken) (c .before 
 returns : tie.Need-returns Inv-loop μ-loop
 returns c = diagonal-end _ _ (c .loop-test .left) (c .before .loop .inv .1)
 
-pub link_selves-spec : {M : Type 1} → statement M
-link_selves-spec =
+pub link-selves-spec : {M : Type 1} → statement M
+link-selves-spec =
     tie.close
     (tie.spec
     Inv-loop

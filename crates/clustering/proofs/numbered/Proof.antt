@@ -15,10 +15,10 @@ use Rattle.clustering.proofs.numbered.Statement.{statement}
 use Rattle.clustering.proofs.numbered.Tie as tie
 
 abbrev Inv-loop : tie.InvT-loop
-Inv-loop n m count₀ numbers₀ i₀ count numbers i = (i ≤ n) × (count ≤ i) × (length numbers ≡ maxCircles) × ((t : Marks) → Shows n m (at t) → Equivalence n t → Numbered n t i count numbers)
+Inv-loop m n count₀ numbers₀ i₀ count numbers i = (i ≤ n) × (count ≤ i) × (length numbers ≡ maxCircles) × ((t : Marks) → Shows n m (at t) → Equivalence n t → Numbered n t i count numbers)
 
 abbrev μ-loop : tie.MeasureT-loop
-μ-loop n m count₀ numbers₀ i₀ count numbers i = n - i
+μ-loop m n count₀ numbers₀ i₀ count numbers i = n - i
 
 loop-holds : tie.Need-loop-holds Inv-loop μ-loop
 loop-holds c = (omega arith, omega arith, refl, λ t s q. numbered-none _ maxCircles t)
@@ -49,7 +49,7 @@ loop-less c = omega arith
 
 loop-again : tie.Need-loop-again Inv-loop μ-loop
 loop-again c =
-    let q = c .before .before .before in
+    let q = c .before .before in
     let l = q .before .loop in
     let hi = q .loop-test .taken in
     let hl : l .i < length (l .numbers) = omega arith in

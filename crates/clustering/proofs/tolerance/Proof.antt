@@ -7,7 +7,7 @@ use lib.Ieee.{ofBits}
 use lib.ListN.{length}
 use borrow.Author.Needs.{needs}
 use Rattle.scope.specs.Numbers.{e-10}
-use Rattle.clustering.proofs.RegionFolds.{largest-all, largest-next, largest-none, largestOf}
+use Rattle.clustering.proofs.Tolerances.{largest-all, largest-next, largest-none, largestOf}
 use Rattle.clustering.proofs.tolerance.Statement.{statement}
 use Rattle.clustering.proofs.tolerance.Tie as tie
 
