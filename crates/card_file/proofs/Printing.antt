@@ -1,11 +1,11 @@
 -- The lines put one after the other are those of the definition, and the parts put one after the other are the whole text.
-use Prim.Native.Nat.{ℕ, zero, suc, _+_, _≤_, min}
-use mathlib.Core.Path.{_≡_, refl, sym, ap, subst, _∙_}
+use Prim.Native.Nat.{ℕ, zero, suc, _+_, _≤_}
+use mathlib.Core.Path.{_≡_, refl, sym, subst}
 use mathlib.Core.List.{List, _++_, append-assoc}
 use native.Mathlib.Omega.{arith}
 use native.Mathlib.Numerals.{add-one}
-use lib.ListN.{length, getD, take, length-take}
-use lib.Seq.{getD-take}
+use lib.ListN.{length, getD, take}
+use lib.Seq.{getD-take, length-take-le}
 use lib.Ieee.{Float}
 use Rattle.shapes.specs.declared.geometry.shapes.circle.Circle.{Circle}
 use Rattle.scope.specs.Runs.{inTurn}
@@ -30,14 +30,9 @@ module _ (circles : List Circle) (numbers : List ℕ) where
   lines-of-first n zero h = refl
   lines-of-first n (suc i) h = rw (lines-of-first n i (omega arith), getD-take n circles i nowhere (omega arith))
 
--- as many circles are shown as the array's first n are
-pub shown-is : (circles : List Circle) (n most shown : ℕ) → length circles ≡ most → shown ≡ min n most → shown ≡ length (take n circles)
-shown-is circles n most shown e d = d ∙ sym (length-take n circles ∙ ap (min n) e)
-
-pub printed-is : (circles : List Circle) (n count : ℕ) (numbers : List ℕ) (moved : ℕ) (padding : Float) (shown pattern : ℕ) → shown ≡ length (take n circles) → pattern ≡ bitsOf padding
-    → bytes "circles " ++ decimal shown ++ (bytes " clusters " ++ decimal count) ++ (bytes " moved " ++ sixteenDigits moved) ++ (bytes " padding " ++ sixteenDigits pattern) ++ bytes "\n" ++ linesOf circles numbers shown
+pub printed-is : (circles : List Circle) (n count : ℕ) (numbers : List ℕ) (moved : ℕ) (padding : Float) (pattern : ℕ) → n ≤ length circles → pattern ≡ bitsOf padding
+    → bytes "circles " ++ decimal n ++ (bytes " clusters " ++ decimal count) ++ (bytes " moved " ++ sixteenDigits moved) ++ (bytes " padding " ++ sixteenDigits pattern) ++ bytes "\n" ++ linesOf circles numbers n
     ≡ printed (layoutOf circles n count numbers moved padding)
 unfolding printed float
-printed-is circles n count numbers moved padding shown pattern e d =
-    let few : length (take n circles) ≤ n = rw (length-take n circles) (omega arith) in
-    rw (e, d, ← lines-of-first circles numbers n (length (take n circles)) few) (simp append-assoc)
+printed-is circles n count numbers moved padding pattern inside d =
+    rw (length-take-le n circles inside, d, lines-of-first circles numbers n n (omega arith)) (simp append-assoc)
