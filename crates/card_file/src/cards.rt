@@ -214,6 +214,8 @@ fn value_refusal(card: Card) -> u8
     let masks = card.masks;
     let areas = card.areas;
     number_of(
-        of_circles(&xs, &ys, &radii, n) | of_regions(&masks[..m], &areas[..m]) | of_factor(card.factor),
+        of_circles(&xs, &ys, &radii, n)
+            | of_regions(&masks[..m], &areas[..m])
+            | of_factor(card.factor),
     )
 }

@@ -23,9 +23,9 @@ bit-or a b k =
     elim (tested (bit a k)) [
       | yes t ↦ is-true _ (union-left a b k t) ∙ rw (is-true (bit a k) t)
       | no f ↦ rw (is-false (bit a k) f) (elim (tested (bit b k)) [
-          | yes t ↦ is-true _ (union-right a b k t) ∙ sym (is-true (bit b k) t)
-          | no g ↦ is-false _ (λ u. g (bit-of-union a b k u f)) ∙ sym (is-false (bit b k) g)
-        ])
+        | yes t ↦ is-true _ (union-right a b k t) ∙ sym (is-true (bit b k) t)
+        | no g ↦ is-false _ (λ u. g (bit-of-union a b k u f)) ∙ sym (is-false (bit b k) g)
+      ])
     ]
 
 bit-power : (j k : ℕ) → bit (2 ^ j) k ≡ eqb j k

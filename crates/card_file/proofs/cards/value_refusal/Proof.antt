@@ -44,9 +44,9 @@ returns c =
     let s = p .before .before .before .before .before in
     let e = p .split-array .ensures in
     let all =
-        joined _ _ ((1, _) ∷ (3, _) ∷ (4, _) ∷ (13, _) ∷ (2, _) ∷ (5, _) ∷ []) ((6, _) ∷ [])
-        (joined _ _ ((1, _) ∷ (3, _) ∷ (4, _) ∷ []) ((13, _) ∷ (2, _) ∷ (5, _) ∷ []) (q .of-circles .ensures) (r .of-regions .ensures))
-        (f .of-factor .ensures) in
+    joined _ _ ((1, _) ∷ (3, _) ∷ (4, _) ∷ (13, _) ∷ (2, _) ∷ (5, _) ∷ []) ((6, _) ∷ [])
+    (joined _ _ ((1, _) ∷ (3, _) ∷ (4, _) ∷ []) ((13, _) ∷ (2, _) ∷ (5, _) ∷ []) (q .of-circles .ensures) (r .of-regions .ensures))
+    (f .of-factor .ensures) in
     c .number-of .ensures ∙ number-says _ _ all ∙ rw (e .1, e .2, e .3) (card-values (s .args .card) (s .pre) _ _ _)
 
 pub value-refusal-spec : {M : Type 1} → statement M
