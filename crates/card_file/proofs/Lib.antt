@@ -1,5 +1,9 @@
+pub mod EightBytes
 pub mod FieldLaws
 pub mod Filling
 pub mod Reading
 pub mod Values
+pub mod Digits
+pub mod Putting
+pub mod Printing
 pub mod Texts

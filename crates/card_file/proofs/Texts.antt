@@ -16,7 +16,7 @@ use Rattle.scope.specs.CardFile.{readCard}
 use Rattle.scope.specs.Print.{printed, refusedText, answerText, cardText}
 use Rattle.layout.specs.FirstLayout.{firstLayout}
 use Rattle.layout.proofs.WholeLayout.{layout-length}
-use Rattle.lines.specs.Texts.{layoutOf}
+use Rattle.card_file.specs.Texts.{layoutOf}
 use Rattle.card_file.specs.Answers.{ReadCard}
 
 -- ---- the layout's text is that of its first n circles

@@ -1,63 +1,52 @@
--- The values of a card with no more circles and regions than there may be: first the circles', then the masks, then the factor.
-use Prim.Native.Nat.{ℕ, zero, suc}
-use mathlib.Core.Path.{_≡_, refl}
-use mathlib.Core.Bool.{Bool, true, false, not, cond}
-use lib.ListN.{take}
-use borrow.Author.Tests.{le-ltb, eq-eqb}
-use Rattle.scope.specs.Limits.{circleCap, regionCap}
+-- The values of a card: what is refused of them, from the words of its checks; and the answer of a card that was read.
+use Prim.Native.Nat.{ℕ}
+use mathlib.Core.Path.{_≡_}
+use mathlib.Core.Bool.{not, cond}
+use mathlib.Core.List.{List, [], _∷_}
+use lib.ListN.{length, take}
+use lib.Ieee.{Float}
+use borrow.Author.Tests.{le-ltb}
+use Rattle.shapes.specs.declared.geometry.shapes.circle.Circle.{Circle}
+use Rattle.scope.specs.Limits.{circleCap}
 use Rattle.scope.specs.Runs.{any}
-use Rattle.scope.specs.Refusals.{Answer, answer, frontToBack, tooMany, unequal, tooManyRegions, badCentre, badRadius, rising, badFactor, circlesRefusal, regionsRefusal, layoutRefusal}
+use Rattle.scope.specs.Refusals.{Answer, answer, refusal, tooMany, unequal, tooManyRegions, badCentre, badRadius, rising, badFactor, layoutRefusal}
 use Rattle.scope.specs.CardFile.{valued}
-use Rattle.promises.proofs.EntryPoints.{circles-reads, regions-reads, layout-reads}
+use Rattle.intake.specs.Columns.{xsOf, ysOf, radiiOf, overwritten}
+use Rattle.intake.specs.CauseWords.{front}
+use Rattle.intake.proofs.CauseWords.{layout-checks}
+use Rattle.intake.proofs.Splitting.{front-shown}
 use Rattle.card_file.specs.declared.cards.Card.{Card}
 use Rattle.card_file.specs.Answers.{ReadCard}
 use Rattle.card_file.specs.Unused.{RestIsBlank}
 use Rattle.card_file.proofs.FieldLaws.{refused-answer}
 use Rattle.card_file.proofs.Filling.{used-length}
 
--- a number, or the next one where it is 0
-unfoldable pub orNext : ℕ → ℕ → ℕ
-orNext zero k = k
-orNext (suc j) k = suc j
+-- ---- what is refused of a card whose circles were split into three arrays
+module _ (r : Card) (u : RestIsBlank r) (xs ys rs : List Float) where
+  abbrev circles : List Circle
+  circles = take (r .n) (r .circles)
 
-in-turn : (a b c : Bool) (k : ℕ) → cond a 3 (cond b 4 (cond c 5 k)) ≡ orNext (cond a 3 (cond b 4 0)) (orNext (cond c 5 0) k)
-unfolding orNext
-in-turn true b c k = refl
-in-turn false true c k = refl
-in-turn false false true k = refl
-in-turn false false false k = refl
+  abbrev masks : List ℕ
+  masks = take (r .m) (r .masks)
 
--- a card's counts are in range, so what is left are its values
-pub value-order : (r : Card) → RestIsBlank r
-    → layoutRefusal (take (r .n) (r .circles)) (r .factor) (take (r .m) (r .masks)) (take (r .m) (r .areas))
-    ≡ orNext (cond (tooMany (r .n)) 1 (circlesRefusal (take (r .n) (r .circles))))
-    (orNext (regionsRefusal (r .n) (take (r .m) (r .masks)) (take (r .m) (r .areas))) (cond (badFactor (r .factor)) 6 0))
-unfolding frontToBack tooMany circleCap tooManyRegions regionCap unequal
-value-order r u =
-    let cs = take (r .n) (r .circles) in
-    let masks = take (r .m) (r .masks) in
-    let areas = take (r .m) (r .areas) in
-    rw (
-      layout-reads cs (r .factor) masks areas .runs,
-      circles-reads cs .runs,
-      regions-reads (r .n) masks areas .runs,
-      used-length (u .circles),
-      used-length (u .masks),
-      used-length (u .areas),
-      le-ltb 64 (r .n) (u .circles .fits),
-      le-ltb 2048 (r .m) (u .masks .fits),
-      eq-eqb (r .m) (r .m) refl,
-    )
-    (in-turn (any badCentre cs) (any badRadius cs) (not (rising masks)) (cond (badFactor (r .factor)) 6 0))
+  abbrev areas : List Float
+  areas = take (r .m) (r .areas)
 
-pub first-counts : (j k : ℕ) → (j ≡ 0 → ⊥) → orNext j k ≡ j
-unfolding orNext
-first-counts zero k h = absurd (h refl)
-first-counts (suc j) k h = refl
+  -- an array after the split
+  abbrev column : (List Circle → List Float) → List Float → List Float
+  column f zs = cond (tooMany (r .n)) zs (overwritten (f circles) zs)
 
-pub next-counts : (j k : ℕ) → j ≡ 0 → orNext j k ≡ k
-unfolding orNext
-next-counts j k h = rw h
+  -- there was room for them, so they come back out
+  shown-again : front (r .n) (column xsOf xs) (column ysOf ys) (column radiiOf rs) ≡ circles
+  unfolding tooMany circleCap
+  shown-again = rw (le-ltb 64 (r .n) (u .circles .fits)) (front-shown (r .n) circles xs ys rs (used-length (u .circles)))
+
+  pub card-values :
+      refusal ((1, tooMany (r .n)) ∷ (3, any badCentre (front (r .n) (column xsOf xs) (column ysOf ys) (column radiiOf rs))) ∷ (4, any badRadius (front (r .n) (column xsOf xs) (column ysOf ys) (column radiiOf rs)))
+      ∷ (13, unequal masks areas) ∷ (2, tooManyRegions (length masks)) ∷ (5, not (rising masks)) ∷ (6, badFactor (r .factor)) ∷ [])
+      ≡ layoutRefusal circles (r .factor) masks areas
+  unfolding layoutRefusal
+  card-values = rw (shown-again, used-length (u .circles)) (layout-checks _ _ _ _ _ _ _)
 
 -- ---- the answer of a card that was read
 

@@ -16,16 +16,18 @@ use crate::fields::circle_of;
 use crate::fields::is_head_cut;
 use crate::fields::length_refusal;
 use crate::fields::tag_at;
+use crate::words::word_at;
 use bits::float_of;
-use bits::word_at;
+use intake::causes::number_of;
+use intake::causes::of_circles;
+use intake::causes::of_factor;
+use intake::causes::of_regions;
 use intake::lent::blank;
 use intake::limits::MAX_CIRCLES;
 use intake::limits::MAX_REGIONS;
-use intake::limits::bad_factor;
 use intake::limits::too_many;
 use intake::limits::too_many_regions;
-use intake::refusals::circles_refusal;
-use intake::refusals::regions_refusal;
+use intake::runs::split_array;
 use shapes::geometry::shapes::circle::Circle;
 
 // A refusal's number or 0, the factor, n circles and m regions. Each area stands beside its pattern, and what is not used is 0.
@@ -204,19 +206,16 @@ fn value_refusal(card: Card) -> u8
 {
     let n = card.n;
     let circles = card.circles;
-    let of_circles = circles_refusal(circles, n);
-    if of_circles != 0 {
-        return of_circles;
-    }
+    let mut xs = [0.0f64; MAX_CIRCLES];
+    let mut ys = [0.0f64; MAX_CIRCLES];
+    let mut radii = [0.0f64; MAX_CIRCLES];
+    split_array(circles, n, &mut xs, &mut ys, &mut radii);
     let m = card.m;
     let masks = card.masks;
     let areas = card.areas;
-    let of_regions = regions_refusal(n, &masks[..m], &areas[..m]);
-    if of_regions != 0 {
-        return of_regions;
-    }
-    if bad_factor(card.factor) {
-        return 6;
-    }
-    0
+    number_of(
+        of_circles(&xs, &ys, &radii, n)
+            | of_regions(&masks[..m], &areas[..m])
+            | of_factor(card.factor),
+    )
 }

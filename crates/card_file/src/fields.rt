@@ -7,9 +7,9 @@ ghost use Rattle.scope.specs.Refusals.{frontToBack};
 ghost use Rattle.scope.specs.CardFile.{tag, statedLength, bodyLength, body, headCut, bodyCut, unknown, wrongLength, circleOf, fieldRefusal, readField, fieldBody, headLength};
 ghost use Rattle.card_file.specs.Answers.{fieldAnswer};
 ghost use Rattle.card_file.specs.Parts.{StartsAt, bodyPlace};
-use bits::byte_at;
+use crate::words::byte_at;
+use crate::words::word_at;
 use bits::float_of;
-use bits::word_at;
 use shapes::geometry::primitives::point::Point;
 use shapes::geometry::shapes::circle::Circle;
 

@@ -1,6 +1,8 @@
 // The card file: its fields, one by one, the card that a whole file holds, and what is printed of it.
 pub mod cards;
 pub mod fields;
+mod lines;
+mod words;
 
 ghost use mathlib.Core.Path.{_≡_};
 ghost use Prim.Native.Nat.{_≤_};
@@ -8,17 +10,25 @@ ghost use lib.ListN.{length, take};
 ghost use Rattle.scope.specs.Runs.{filled};
 ghost use Rattle.scope.specs.Layout.{layout};
 ghost use Rattle.scope.specs.Print.{printed, cardText};
-ghost use Rattle.lines.specs.Texts.{maxText};
+ghost use Rattle.card_file.specs.Texts.{maxText};
 ghost use Rattle.card_file.specs.Unused.{RestIsBlank};
 use crate::cards::Card;
 use crate::cards::read_card;
+use crate::lines::printed;
+use crate::lines::refused_text;
 use layout::normalize::normalize_layout_with_clusters_by_value;
-use lines::Text;
-use lines::printed;
-use lines::refused_text;
 
 // A longer input is refused (2), before anything is read as a field.
 pub const MAX_INPUT: usize = 65536;
+
+// 64 lines of at most 59 bytes, and a first line of at most 107.
+pub const MAX_TEXT: usize = 4096;
+
+// The text is the first `length` bytes, and the rest is 0.
+pub struct Text {
+    pub length: usize,
+    pub bytes: [u8; MAX_TEXT],
+}
 
 // The very bytes that program `card` prints for an input.
 pub fn card_text(input: &[u8]) -> Text

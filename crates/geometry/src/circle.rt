@@ -11,14 +11,13 @@ ghost use Rattle.scope.specs.Distance.{
   circleDistanceAnswer,
 };
 ghost use Rattle.scope.specs.Numbers.{abs};
-ghost use Rattle.scope.specs.Links.{overlap};
 ghost use Rattle.scope.specs.Refusals.{pairRefusal, circlePointRefusal};
 ghost use Rattle.geometry.specs.Answers.{measured, decided};
 use crate::point::Measured;
 use crate::point::raw_distance;
-use intake::limits::bad_centre;
-use intake::limits::bad_point;
-use intake::limits::bad_radius;
+use intake::causes::number_of;
+use intake::causes::of_circle_and_point;
+use intake::causes::of_pair;
 use shapes::geometry::primitives::point::Point;
 use shapes::geometry::shapes::circle::Circle;
 
@@ -75,28 +74,16 @@ pub fn intersects(a: Circle, b: Circle) -> Decided
 fn pair_refusal(a: Circle, b: Circle) -> u8
     ensures { λ r. ⌜ r ≡ pairRefusal a b ⌝ }
 {
-    if bad_centre(a) || bad_centre(b) {
-        return 3;
-    }
-    if bad_radius(a) || bad_radius(b) {
-        return 4;
-    }
-    0
+    number_of(of_pair(a, b))
 }
 
 fn circle_point_refusal(c: Circle, p: Point) -> u8
     ensures { λ r. ⌜ r ≡ circlePointRefusal c p ⌝ }
 {
-    if bad_centre(c) || bad_point(p) {
-        return 3;
-    }
-    if bad_radius(c) {
-        return 4;
-    }
-    0
+    number_of(of_circle_and_point(c, p))
 }
 
-// ---- without the checks: the offset step tests circles beyond the ranges
+// ---- without the checks
 
 fn raw_circle_distance(a: Circle, b: Circle) -> f64
     ensures { λ r. ⌜ r ≡ circleDistance a b ⌝ }
@@ -106,7 +93,7 @@ fn raw_circle_distance(a: Circle, b: Circle) -> f64
     if s < d { d - s } else { 0.0 }
 }
 
-pub fn raw_contains(a: Circle, b: Circle) -> bool
+fn raw_contains(a: Circle, b: Circle) -> bool
     ensures { λ r. ⌜ r ≡ contains a b ⌝ }
 {
     raw_distance(a.center, b.center) + b.radius <= a.radius
@@ -123,13 +110,6 @@ fn raw_intersects(a: Circle, b: Circle) -> bool
 {
     let d = raw_distance(a.center, b.center);
     d < a.radius + b.radius && absolute(a.radius - b.radius) < d
-}
-
-// Whether two circles belong together: their edges cross, or one lies inside the other.
-pub fn overlap(a: Circle, b: Circle) -> bool
-    ensures { λ r. ⌜ r ≡ overlap a b ⌝ }
-{
-    raw_intersects(a, b) || raw_contains(a, b) || raw_contains(b, a)
 }
 
 // The size of a number, its sign taken off.

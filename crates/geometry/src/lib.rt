@@ -1,4 +1,3 @@
 // Distances and tests of points and circles.
 pub mod circle;
-pub mod extent;
 pub mod point;

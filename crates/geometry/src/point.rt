@@ -5,7 +5,8 @@ ghost use Rattle.rounding.specs.Root.{root};
 ghost use Rattle.scope.specs.Distance.{distance, distanceAnswer};
 ghost use Rattle.scope.specs.Refusals.{pointsRefusal};
 ghost use Rattle.geometry.specs.Answers.{measured};
-use intake::limits::bad_point;
+use intake::causes::number_of;
+use intake::causes::of_points;
 use root::answers::Root;
 use shapes::geometry::primitives::point::Point;
 
@@ -29,13 +30,10 @@ pub fn distance(p: Point, q: Point) -> Measured
 fn points_refusal(p: Point, q: Point) -> u8
     ensures { λ r. ⌜ r ≡ pointsRefusal p q ⌝ }
 {
-    if bad_point(p) || bad_point(q) {
-        return 3;
-    }
-    0
+    number_of(of_points(p, q))
 }
 
-// The root of the sum of the squared differences, each step rounded. Nothing is asked of the points: the offset step measures beyond the range.
+// The root of the sum of the squared differences, each step rounded.
 pub(crate) fn raw_distance(p: Point, q: Point) -> f64
     ensures { λ r. ⌜ r ≡ distance p q ⌝ }
 {

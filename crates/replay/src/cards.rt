@@ -1,6 +1,6 @@
 // Whole cards: the two-byte length of the card file, the file, and the very bytes that program `card` prints for it.
 use crate::read;
-use lines::Text;
+use card_file::Text;
 
 pub fn card_agrees(body: &[u8]) -> bool {
     let length = read::byte(body, 0) as usize + 256 * read::byte(body, 1) as usize;

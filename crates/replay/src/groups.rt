@@ -97,7 +97,7 @@ fn words(body: &[u8], at: usize, n: usize) -> [u64; 4096]
 fn word(body: &[u8], at: usize, i: usize) -> u64 {
     if at < 65536 {
         if i < 4096 {
-            return bits::word_at(body, at + 8 * i);
+            return read::word(body, at + 8 * i);
         }
     }
     0

@@ -1,4 +1,5 @@
 // Numbers of a body. What lies past its end counts as 0; a body of a wrong length is refused before.
+ghost use Prim.Native.Nat.{_<_, _^_};
 use shapes::geometry::primitives::bounds::Bounds;
 use shapes::geometry::primitives::point::Point;
 use shapes::geometry::shapes::circle::Circle;
@@ -9,12 +10,45 @@ pub fn byte(body: &[u8], at: usize) -> u8 {
 }
 
 pub fn float(body: &[u8], at: usize) -> f64 {
-    bits::float_of(bits::word_at(body, at))
+    bits::float_of(word(body, at))
+}
+
+// Eight bytes, the lowest first.
+pub fn word(body: &[u8], at: usize) -> u64 {
+    half(body, at, 0) + half(body, at, 4) * 4294967296
+}
+
+// Four bytes, from the k-th after a place.
+fn half(body: &[u8], at: usize, k: usize) -> u64
+    requires { ⌜ k < 8 ⌝ }
+    ensures { λ r. ⌜ r < 2 ^ 32 ⌝ }
+{
+    later(body, at, k)
+        + later(body, at, k + 1) * 256
+        + later(body, at, k + 2) * 65536
+        + later(body, at, k + 3) * 16777216
+}
+
+fn later(body: &[u8], at: usize, k: usize) -> u64
+    ensures { λ r. ⌜ r < 256 ⌝ }
+{
+    if at < body.len() {
+        if k < body.len() - at {
+            return wide(body[at + k]);
+        }
+    }
+    0
+}
+
+fn wide(x: u8) -> u64
+    ensures { λ r. ⌜ r < 256 ⌝ }
+{
+    x as u64
 }
 
 // Whether the word at a place is a result's pattern, a zero's sign aside.
 pub fn is_result(body: &[u8], at: usize, x: f64) -> bool {
-    bits::word_at(body, at) == bits::bits_of(x)
+    word(body, at) == bits::bits_of(x)
 }
 
 pub fn point(body: &[u8], at: usize) -> Point {

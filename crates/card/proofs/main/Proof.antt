@@ -1,6 +1,6 @@
 -- `main` only reads, calls and writes: the text has room in its buffer.
 use borrow.Author.Needs.{needs}
-use Rattle.lines.proofs.Putting.{text-fits}
+use Rattle.card_file.proofs.Putting.{text-fits}
 use Rattle.card.proofs.main.Statement.{statement}
 use Rattle.card.proofs.main.Tie as tie
 

@@ -1,83 +1,65 @@
--- `value_refusal` meets its contract: the circles' values, then the masks, then the factor.
-use native.Mathlib.Omega.{arith}
+-- `value_refusal` meets its contract: the words of its checks joined say what is refused of a layout's values.
+use mathlib.Core.Path.{_≡_, sym, _∙_}
+use mathlib.Core.List.{[], _∷_}
 use borrow.Author.Needs.{needs}
-use mathlib.Core.Path.{sym, _∙_}
+use Rattle.intake.proofs.CauseWords.{joined, number-says}
 use Rattle.card_file.proofs.Filling.{used-length}
-use Rattle.card_file.proofs.Values.{value-order, first-counts, next-counts}
+use Rattle.card_file.proofs.Values.{card-values}
 use Rattle.card_file.proofs.cards.value_refusal.Statement.{statement}
 use Rattle.card_file.proofs.cards.value_refusal.Tie as tie
 
-circles-refusal-requires : tie.Need-circles-refusal-requires
-circles-refusal-requires c κs = search needs
+split-array-requires : tie.Need-split-array-requires
+split-array-requires c κs = search needs
+
+of-circles-requires : tie.Need-of-circles-requires
+of-circles-requires c κs = search needs
+
+array-share-prefix-masks : tie.Need-array-share-prefix-masks
+array-share-prefix-masks c = search needs
+
+slice-aggregate-of-regions : tie.Need-slice-aggregate-of-regions
+slice-aggregate-of-regions c = let s = c .before .before .before .before .before .before .before .before .before .before .before .before in sym (used-length (s .pre .masks))
+
+array-share-prefix-areas : tie.Need-array-share-prefix-areas
+array-share-prefix-areas c = search needs
+
+slice-aggregate-of-regions-2 : tie.Need-slice-aggregate-of-regions-2
+slice-aggregate-of-regions-2 c = let s = c .before .before .before .before .before .before .before .before .before .before .before .before .before in sym (used-length (s .pre .areas))
+
+of-regions-requires : tie.Need-of-regions-requires
+of-regions-requires c κs = search needs
+
+of-factor-requires : tie.Need-of-factor-requires
+of-factor-requires c κs = search needs
+
+number-of-requires : tie.Need-number-of-requires
+number-of-requires c κs = search needs
 
 returns : tie.Need-returns
 returns c =
-    let q = c .before in
-    let s = q .before .before in
-    let e = q .circles-refusal .ensures in
-    e ∙ sym (value-order (s .args .card) (s .pre) ∙ first-counts _ _ (λ h. c .if1 .taken (e ∙ h)))
-
-array-share-prefix-masks : tie.Need-array-share-prefix-masks
-array-share-prefix-masks c = let s = c .before .before .before .before .before in omega arith
-
-slice-aggregate-regions-refusal : tie.Need-slice-aggregate-regions-refusal
-slice-aggregate-regions-refusal c = let s = c .before .before .before .before .before .before in sym (used-length (s .pre .masks))
-
-array-share-prefix-areas : tie.Need-array-share-prefix-areas
-array-share-prefix-areas c = let s = c .before .before .before .before .before .before in omega arith
-
-slice-aggregate-regions-refusal-2 : tie.Need-slice-aggregate-regions-refusal-2
-slice-aggregate-regions-refusal-2 c = let s = c .before .before .before .before .before .before .before in sym (used-length (s .pre .areas))
-
-regions-refusal-requires : tie.Need-regions-refusal-requires
-regions-refusal-requires c κs = search needs
-
-returns-2 : tie.Need-returns-2
-returns-2 c =
-    let q = c .before in
-    let i = q .before .before .before .before .before in
-    let s = i .before .before .before in
-    let e = i .before .circles-refusal .ensures in
-    let g = q .regions-refusal .ensures in
-    g ∙ sym (value-order (s .args .card) (s .pre) ∙ next-counts _ _ (sym e ∙ i .if1 .left) ∙ first-counts _ _ (λ h. c .if2 .taken (g ∙ h)))
-
-bad-factor-requires : tie.Need-bad-factor-requires
-bad-factor-requires c κs = search needs
-
-returns-3 : tie.Need-returns-3
-returns-3 c =
-    let x = c .before in
-    let q = x .before .before in
-    let i = q .before .before .before .before .before in
-    let s = i .before .before .before in
-    let e = i .before .circles-refusal .ensures in
-    let g = q .regions-refusal .ensures in
-    let b = x .bad-factor .ensures in
-    sym (value-order (s .args .card) (s .pre) ∙ next-counts _ _ (sym e ∙ i .if1 .left) ∙ next-counts _ _ (sym g ∙ x .before .if2 .left) ∙ rw (← b, c .if3 .taken))
-
-returns-4 : tie.Need-returns-4
-returns-4 c =
-    let x = c .before in
-    let q = x .before .before in
-    let i = q .before .before .before .before .before in
-    let s = i .before .before .before in
-    let e = i .before .circles-refusal .ensures in
-    let g = q .regions-refusal .ensures in
-    let b = x .bad-factor .ensures in
-    sym (value-order (s .args .card) (s .pre) ∙ next-counts _ _ (sym e ∙ i .if1 .left) ∙ next-counts _ _ (sym g ∙ x .before .if2 .left) ∙ rw (← b, c .if3 .left))
+    let f = c .before in
+    let r = f .before in
+    let q = r .before .before .before in
+    let p = q .before .before .before .before .before .before in
+    let s = p .before .before .before .before .before in
+    let e = p .split-array .ensures in
+    let all =
+    joined _ _ ((1, _) ∷ (3, _) ∷ (4, _) ∷ (13, _) ∷ (2, _) ∷ (5, _) ∷ []) ((6, _) ∷ [])
+    (joined _ _ ((1, _) ∷ (3, _) ∷ (4, _) ∷ []) ((13, _) ∷ (2, _) ∷ (5, _) ∷ []) (q .of-circles .ensures) (r .of-regions .ensures))
+    (f .of-factor .ensures) in
+    c .number-of .ensures ∙ number-says _ _ all ∙ rw (e .1, e .2, e .3) (card-values (s .args .card) (s .pre) _ _ _)
 
 pub value-refusal-spec : {M : Type 1} → statement M
 value-refusal-spec =
     tie.close
     (tie.spec
-    circles-refusal-requires
-    returns
+    split-array-requires
+    of-circles-requires
     array-share-prefix-masks
-    slice-aggregate-regions-refusal
+    slice-aggregate-of-regions
     array-share-prefix-areas
-    slice-aggregate-regions-refusal-2
-    regions-refusal-requires
-    returns-2
-    bad-factor-requires
-    returns-3
-    returns-4)
+    slice-aggregate-of-regions-2
+    of-regions-requires
+    of-factor-requires
+    number-of-requires
+    returns)

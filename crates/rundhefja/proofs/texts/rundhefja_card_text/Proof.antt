@@ -3,7 +3,7 @@ use mathlib.Core.Path.{ap, _∙_}
 use mathlib.Core.List.{List}
 use Prim.Native.Nat.{ℕ}
 use borrow.Author.Needs.{needs}
-use Rattle.lines.specs.Texts.{maxText}
+use Rattle.card_file.specs.Texts.{maxText}
 use Rattle.rundhefja.specs.Written.{written}
 use Rattle.rundhefja.proofs.Writing.{used-is, used-within, used-count}
 use Rattle.rundhefja.proofs.texts.rundhefja_card_text.Statement.{statement}

@@ -1,0 +1,26 @@
+-- `put_count` meets its contract.
+use native.Mathlib.Omega.{arith}
+use borrow.Author.Needs.{needs}
+use Rattle.card_file.proofs.Putting.{put-both}
+use Rattle.card_file.proofs.Digits.{word-length}
+use Rattle.card_file.proofs.lines.put_count.Statement.{statement}
+use Rattle.card_file.proofs.lines.put_count.Tie as tie
+
+put-bytes-requires : tie.Need-put-bytes-requires
+put-bytes-requires c κs = search needs
+
+put-decimal-requires : tie.Need-put-decimal-requires
+put-decimal-requires c κs =
+    let start = c .before .before .before .before in
+    omega (arith, word-length (start .args .n) (start .fits .n .fits), c .before .put-bytes .ensures .place)
+
+returns : tie.Need-returns
+returns c =
+    let start = c .before .before .before .before .before in
+    let word = c .before .before .put-bytes .ensures in (
+      put-both word (c .put-decimal .ensures),
+      omega (arith, word-length (start .args .n) (start .fits .n .fits), word .place, c .put-decimal .ensures .place),
+    )
+
+pub put-count-spec : {M : Type 1} → statement M
+put-count-spec = tie.close (tie.spec put-bytes-requires put-decimal-requires returns)

@@ -1,0 +1,40 @@
+-- `byte_at` meets its contract.
+use Prim.Native.Nat.{ℕ, suc, _≤_, _<_, _-_, _+_}
+use native.Mathlib.Omega.{arith}
+use borrow.Author.Needs.{needs}
+use mathlib.Core.Path.{_≡_, refl, sym, ap, _∙_}
+use mathlib.Core.Bool.{Bool, true, false, not, _&&_, _||_, cond}
+use lib.ListN.{length, getD, set}
+use borrow.Author.Needs.{needs}
+use lib.Seq.{getD-drop}
+use Rattle.card_file.proofs.EightBytes.{past-end}
+use Rattle.card_file.proofs.words.byte_at.Statement.{statement}
+use Rattle.card_file.proofs.words.byte_at.Tie as tie
+
+sub-if2 : tie.Need-sub-if2
+sub-if2 c = search needs
+
+add-wide : tie.Need-add-wide
+add-wide c = search needs
+
+shared-slice-read-wide : tie.Need-shared-slice-read-wide
+shared-slice-read-wide c = search needs
+
+wide-requires : tie.Need-wide-requires
+wide-requires c κs = search needs
+
+returns : tie.Need-returns
+returns c =
+    let a = c .before .before .before .before .before .args in
+    (c .wide .ensures .0 ∙ sym (getD-drop (a .at) (a .bytes .now) (a .k) 0), c .wide .ensures .1)
+
+returns-2 : tie.Need-returns-2
+returns-2 c = let a = c .before .before .before .args in (sym (past-end (a .bytes .now) (a .at) (a .k) (omega arith)), omega arith)
+
+returns-3 : tie.Need-returns-3
+returns-3 c = let a = c .before .before .args in (sym (past-end (a .bytes .now) (a .at) (a .k) (omega arith)), omega arith)
+
+pub byte-at-spec : {M : Type 1} → statement M
+byte-at-spec =
+    tie.close
+    (tie.spec sub-if2 add-wide shared-slice-read-wide wide-requires returns returns-2 returns-3)

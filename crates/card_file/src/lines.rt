@@ -1,0 +1,201 @@
+// The text that program `card` prints, as bytes.
+ghost use mathlib.Core.Path.{_≡_};
+ghost use mathlib.Core.List.{[], _∷_, _++_};
+ghost use Prim.Native.Nat.{_+_, _*_, _/_, _%_, _^_, _≤_, _<_};
+ghost use lib.ListN.{length};
+ghost use Rattle.scope.specs.Runs.{filled};
+ghost use Rattle.scope.specs.Text.{bytes};
+ghost use Rattle.scope.specs.Print.{decimal, hexDigit, sixteenDigits, float, line, printed, refusedText};
+ghost use Rattle.intake.specs.Limits.{maxCircles};
+ghost use Rattle.card_file.specs.Texts.{maxText, Put, linesOf, layoutOf};
+use crate::MAX_TEXT;
+use crate::Text;
+use bits::bits_of;
+use intake::limits::MAX_CIRCLES;
+use shapes::geometry::shapes::circle::Circle;
+
+// What a refusal prints.
+pub(crate) fn refused_text(number: u8) -> Text
+    ensures { λ r. ⌜ (r .length ≡ length (refusedText number)) × (r .bytes ≡ filled maxText 0 (refusedText number)) × (r .length ≤ maxText) ⌝ }
+{
+    let mut bytes = [0u8; MAX_TEXT];
+    let end = put_count(&mut bytes, 0, b"refused ", number as u64);
+    let length = put_byte(&mut bytes, end, b'\n');
+    Text { length, bytes }
+}
+
+// What a layout prints: a line for the whole, then one for each of its n circles.
+pub(crate) fn printed(
+    circles: [Circle; MAX_CIRCLES],
+    n: usize,
+    count: usize,
+    numbers: [u8; MAX_CIRCLES],
+    moved: u64,
+    padding: f64,
+) -> Text
+    requires { ⌜ n ≤ maxCircles ⌝ }
+    ensures { λ r. ⌜ (r .length ≡ length (printed (layoutOf circles n count numbers moved padding))) × (r .bytes ≡ filled maxText 0 (printed (layoutOf circles n count numbers moved padding))) × (r .length ≤ maxText) ⌝ }
+{
+    let mut bytes = [0u8; MAX_TEXT];
+    let circles_end = put_count(&mut bytes, 0, b"circles ", n as u64);
+    let clusters_end = put_count(&mut bytes, circles_end, b" clusters ", count as u64);
+    let moved_end = put_digits(&mut bytes, clusters_end, b" moved ", moved);
+    let padding_end = put_digits(&mut bytes, moved_end, b" padding ", bits_of(padding));
+    let head = put_byte(&mut bytes, padding_end, b'\n');
+    let length = put_lines(&mut bytes, head, circles, n, numbers);
+    Text { length, bytes }
+}
+
+// ---- lines
+
+// Circle, cluster, x, y, radius.
+fn put_line(out: &mut [u8; MAX_TEXT], at: usize, i: usize, cluster: u8, c: Circle) -> usize
+    requires { ⌜ (i < maxCircles) × (at + 59 ≤ maxText) ⌝ }
+    ensures { λ r. ⌜ Put (line i cluster c) at (now (out .entry)) r (now (out .exit)) × (r ≤ at + 59) ⌝ }
+{
+    let center = c.center;
+    let numbers_end = put_pair(out, at, i as u64, cluster as u64);
+    let x_end = put_float(out, numbers_end, center.x);
+    let y_end = put_float(out, x_end, center.y);
+    let radius_end = put_float(out, y_end, c.radius);
+    put_byte(out, radius_end, b'\n')
+}
+
+fn put_lines(
+    out: &mut [u8; MAX_TEXT],
+    at: usize,
+    circles: [Circle; MAX_CIRCLES],
+    n: usize,
+    numbers: [u8; MAX_CIRCLES],
+) -> usize
+    requires { ⌜ (n ≤ maxCircles) × (at + 64 * 59 ≤ maxText) ⌝ }
+    ensures { λ r. ⌜ Put (linesOf circles numbers n) at (now (out .entry)) r (now (out .exit)) × (r ≤ at + 64 * 59) ⌝ }
+{
+    let mut next = at;
+    let mut i: usize = 0;
+    while i < n {
+        let after = put_line(out, next, i, numbers[i], circles[i]);
+        next = after;
+        i += 1;
+    }
+    next
+}
+
+// ---- parts of a line
+
+// A word and a number in decimal, of at most 20 digits.
+fn put_count(out: &mut [u8; MAX_TEXT], at: usize, word: &[u8], n: u64) -> usize
+    requires { ⌜ at + length (now word) + 20 ≤ maxText ⌝ }
+    ensures { λ r. ⌜ Put (now (word .entry) ++ decimal n) at (now (out .entry)) r (now (out .exit)) × (r ≤ at + length (now (word .entry)) + 20) ⌝ }
+{
+    let next = put_bytes(out, at, word);
+    put_decimal(out, next, n)
+}
+
+// A word and a number in sixteen digits.
+fn put_digits(out: &mut [u8; MAX_TEXT], at: usize, word: &[u8], n: u64) -> usize
+    requires { ⌜ at + length (now word) + 16 ≤ maxText ⌝ }
+    ensures { λ r. ⌜ Put (now (word .entry) ++ sixteenDigits n) at (now (out .entry)) r (now (out .exit)) × (r ≡ at + length (now (word .entry)) + 16) ⌝ }
+{
+    let next = put_bytes(out, at, word);
+    put_sixteen(out, next, n)
+}
+
+// A space and a float. Either zero is sixteen 0s.
+fn put_float(out: &mut [u8; MAX_TEXT], at: usize, x: f64) -> usize
+    requires { ⌜ at + 17 ≤ maxText ⌝ }
+    ensures { λ r. ⌜ Put (bytes " " ++ float x) at (now (out .entry)) r (now (out .exit)) × (r ≡ at + 17) ⌝ }
+{
+    put_digits(out, at, b" ", bits_of(x))
+}
+
+// Two numbers of at most 3 digits each, with a space between them.
+fn put_pair(out: &mut [u8; MAX_TEXT], at: usize, a: u64, b: u64) -> usize
+    requires { ⌜ (a < 256) × (b < 256) × (at + 7 ≤ maxText) ⌝ }
+    ensures { λ r. ⌜ Put (decimal a ++ bytes " " ++ decimal b) at (now (out .entry)) r (now (out .exit)) × (r ≤ at + 7) ⌝ }
+{
+    let first = put_decimal(out, at, a);
+    let space = put_byte(out, first, b' ');
+    put_decimal(out, space, b)
+}
+
+// ---- numbers
+
+// A number in decimal: the digits before its last, if there are any, and the last.
+fn put_decimal(out: &mut [u8; MAX_TEXT], at: usize, n: u64) -> usize
+    requires { ⌜ at + length (decimal n) ≤ maxText ⌝ }
+    ensures { λ r. ⌜ Put (decimal n) at (now (out .entry)) r (now (out .exit)) ⌝ }
+{
+    let digit = decimal_digit(n % 10);
+    if n < 10 {
+        return put_byte(out, at, digit);
+    }
+    let next = put_decimal(out, at, n / 10);
+    put_byte(out, next, digit)
+}
+
+fn decimal_digit(d: u64) -> u8
+    requires { ⌜ d < 10 ⌝ }
+    ensures { λ r. ⌜ r ≡ 48 + d ⌝ }
+{
+    48 + d as u8
+}
+
+// Sixteen hexadecimal digits, the highest first.
+fn put_sixteen(out: &mut [u8; MAX_TEXT], at: usize, n: u64) -> usize
+    requires { ⌜ at + 16 ≤ maxText ⌝ }
+    ensures { λ r. ⌜ Put (sixteenDigits n) at (now (out .entry)) r (now (out .exit)) × (r ≡ at + 16) ⌝ }
+{
+    let mut next = at;
+    let mut i: u64 = 0;
+    while i < 16 {
+        let after = put_byte(out, next, digit_at(n, 15 - i));
+        next = after;
+        i += 1;
+    }
+    next
+}
+
+// The hexadecimal digit with k digits behind it.
+fn digit_at(n: u64, k: u64) -> u8
+    requires { ⌜ k < 16 ⌝ }
+    ensures { λ r. ⌜ r ≡ hexDigit (n / 16 ^ k % 16) ⌝ }
+{
+    hexadecimal_digit((n >> (4 * k)) % 16)
+}
+
+// 0 to 9, a to f.
+fn hexadecimal_digit(d: u64) -> u8
+    requires { ⌜ d < 16 ⌝ }
+    ensures { λ r. ⌜ r ≡ hexDigit d ⌝ }
+{
+    if d < 10 {
+        return 48 + d as u8;
+    }
+    87 + d as u8
+}
+
+// ---- bytes
+
+// One byte behind the text that ends at a place, and the place behind it.
+fn put_byte(out: &mut [u8; MAX_TEXT], at: usize, byte: u8) -> usize
+    requires { ⌜ at < maxText ⌝ }
+    ensures { λ r. ⌜ Put (byte ∷ []) at (now (out .entry)) r (now (out .exit)) ⌝ }
+{
+    out[at] = byte;
+    at + 1
+}
+
+fn put_bytes(out: &mut [u8; MAX_TEXT], at: usize, bytes: &[u8]) -> usize
+    requires { ⌜ at + length (now bytes) ≤ maxText ⌝ }
+    ensures { λ r. ⌜ Put (now (bytes .entry)) at (now (out .entry)) r (now (out .exit)) ⌝ }
+{
+    let mut next = at;
+    let mut i: usize = 0;
+    while i < bytes.len() {
+        let after = put_byte(out, next, bytes[i]);
+        next = after;
+        i += 1;
+    }
+    next
+}

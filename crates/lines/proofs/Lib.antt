@@ -1,3 +1,0 @@
-pub mod Putting
-pub mod Digits
-pub mod Printing
