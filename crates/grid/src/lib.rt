@@ -1,2 +1,0 @@
-// Boxes in a grid.
-pub mod packing;

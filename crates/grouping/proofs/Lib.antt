@@ -1,6 +1,0 @@
-pub mod Finite
-pub mod Table
-pub mod Linking
-pub mod Numbering
-pub mod AreaClusters
-pub mod PlainClusters

@@ -1,2 +1,0 @@
-// Which circles belong together.
-pub mod clustering;
