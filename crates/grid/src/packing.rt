@@ -32,6 +32,7 @@ pub enum ColumnCount {
 }
 
 // A refusal's number or 0, and the boxes in the order given. What is not used is 0.
+#[repr(C)]
 pub struct Packed {
     pub refusal: u8,
     pub rectangles: [Rectangle; MAX_CIRCLES],

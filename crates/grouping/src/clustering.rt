@@ -25,6 +25,7 @@ use intake::refusals::regions_refusal;
 use shapes::geometry::shapes::circle::Circle;
 
 // A refusal's number or 0, how many clusters there are, and the cluster of each circle. What is not used is 0.
+#[repr(C)]
 pub struct Clusters {
     pub refusal: u8,
     pub count: usize,

@@ -49,6 +49,7 @@ use shapes::geometry::shapes::circle::Circle;
 use shapes::geometry::shapes::rectangle::Rectangle;
 
 // Document 01's result: a refusal's number or 0, the clusters, the mask of the moved circles, and the padding. What is not used is 0.
+#[repr(C)]
 pub struct Result {
     pub refusal: u8,
     pub count: usize,
@@ -58,12 +59,14 @@ pub struct Result {
 }
 
 // The result, and the circles: as they were given where the call is refused.
+#[repr(C)]
 pub struct Layout {
     pub result: Result,
     pub circles: [Circle; MAX_CIRCLES],
 }
 
 // A refusal's number or 0, and the container and the circles: as they were given where the call is refused.
+#[repr(C)]
 pub struct InContainer {
     pub refusal: u8,
     pub container: Rectangle,
@@ -71,6 +74,7 @@ pub struct InContainer {
 }
 
 // The same without the circles, for a lent run: they are rewritten there.
+#[repr(C)]
 pub struct Placed {
     pub refusal: u8,
     pub container: Rectangle,
