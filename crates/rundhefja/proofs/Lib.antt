@@ -1,2 +1,3 @@
 pub mod PassOn
+pub mod Bodies
 pub mod Writing
