@@ -28,7 +28,7 @@ extern "C" {
 #define RUNDHEFJA_MAX_TEXT 4096
 
 /* The most stack that a call uses, in bytes: rundhefja_card_text, and any other. */
-#define RUNDHEFJA_STACK_CARD_TEXT 131072
+#define RUNDHEFJA_STACK_CARD_TEXT 106496
 #define RUNDHEFJA_STACK 49152
 
 /* ---- records */
