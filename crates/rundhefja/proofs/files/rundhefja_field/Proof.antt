@@ -31,7 +31,7 @@ returns c =
     let l = lies (a .file .now) (a .at) in
     let length-is = b .body-length .ensures in
     let start-is : j .if1 .start ≡ bodyPlace (a .file .now) (a .at) =
-      ⊎-elim (λ w. w .1 ∙ sym (l .nowhere (sym length-is ∙ w .0 .taken))) (λ w. w .1 ∙ sym (l .somewhere (λ e. w .0 .left (length-is ∙ e)) .0)) (j .if1 .came)
+    ⊎-elim (λ w. w .1 ∙ sym (l .nowhere (sym length-is ∙ w .0 .taken))) (λ w. w .1 ∙ sym (l .somewhere (λ e. w .0 .left (length-is ∙ e)) .0)) (j .if1 .came)
     in
     read-with-body (a .file .now) (a .at) _ _ _ _ (c .field-read .ensures) (c .before .read-field .ensures) start-is length-is
 
