@@ -33,7 +33,7 @@ use Rattle.layout.proofs.normalize.Placed.Laws as R′
 use Rattle.layout.proofs.normalize.normalize_layout_with_container.Symbol as callee-def
 use Rattle.layout.proofs.normalize.normalize_layout_with_container.Symbol.{name as #callee}
 use Rattle.layout.proofs.normalize.normalize_layout_with_container.Met as callee-thm
-use Rattle.rundhefja.proofs.PassOn.{values, entry, enters, opens, passes-back}
+use Rattle.rundhefja.proofs.PassOn.{values, entry, enters, opens, copies, passes-back}
 use Rattle.rundhefja.proofs.runs.rundhefja_container.Key.{name as #call}
 use Rattle.rundhefja.proofs.runs.rundhefja_container as thin
 use Rattle.rundhefja.proofs.runs.rundhefja_container.Statement as stated
@@ -60,7 +60,7 @@ module _ {M : Type 1} (𝓤 : URA M) (H : Heap 𝓤) (A : Atoms 𝓤) (W : Given
       -- the circles are reborrowed: where they lie, and then with their number
       assigns ! (addr ! (from ! (fld ! refl (hop ! (look-in ! 2 (sub ! 0 refl (whole !))) (stop !))))) (from ! (stop !)) (init ! 6 refl (tt, tt)) $
       assigns ! (agg ! (and-then ! (load ! (from ! (stop !)) (look ! 6 refl)) (and-then ! (load ! (from ! (fld ! refl (stop !))) (look-in ! 2 (sub ! 1 refl (whole !)))) (no-more !)))) (from ! (stop !)) (init ! 8 refl (typed .0)) $
-      move ! (10 ∷ []) $ calls-at ! (fmOf 𝓤 H (W .laws) 𝓣) Con known y (and-then ! (load ! (from ! (stop !)) (look ! 9 refl)) (and-then ! (load ! (from ! (stop !)) (look ! 5 refl)) (no-more !))) (λ v.
+      move ! (10 ∷ []) $ calls-at ! (fmOf 𝓤 H (W .laws) 𝓣) Con known y (copies 𝓤 H A 9 refl (copies 𝓤 H A 5 refl (no-more !))) (λ v.
       passes-back 𝓤 H A thin.signature spec W (values 𝓤 H A thin.signature spec sp κs a ++ vptr (a .0 .ptr .0) (a .0 .ptr .1) ∷ sliceVal (a .0 .ptr) (length (a .0 .now)) ∷ []) y v (λ r is. LL.lawful R.the-type R′.the-laws 𝓤 H A W .typed r _ is .0))))
 
 pub rundhefja-container-spec : {M : Type 1} → stated.statement M

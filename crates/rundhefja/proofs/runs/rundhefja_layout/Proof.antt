@@ -34,7 +34,7 @@ use Rattle.layout.proofs.normalize.Result.Laws as R′
 use Rattle.layout.proofs.normalize.normalize_layout_with_clusters.Symbol as callee-def
 use Rattle.layout.proofs.normalize.normalize_layout_with_clusters.Symbol.{name as #callee}
 use Rattle.layout.proofs.normalize.normalize_layout_with_clusters.Met as callee-thm
-use Rattle.rundhefja.proofs.PassOn.{values, entry, enters, opens, passes-back}
+use Rattle.rundhefja.proofs.PassOn.{values, entry, enters, opens, copies, passes-back}
 use Rattle.rundhefja.proofs.runs.rundhefja_layout.Key.{name as #call}
 use Rattle.rundhefja.proofs.runs.rundhefja_layout as thin
 use Rattle.rundhefja.proofs.runs.rundhefja_layout.Statement as stated
@@ -61,7 +61,7 @@ module _ {M : Type 1} (𝓤 : URA M) (H : Heap 𝓤) (A : Atoms 𝓤) (W : Given
       -- the circles are reborrowed: where they lie, and then with their number
       assigns ! (addr ! (from ! (fld ! refl (hop ! (look-in ! 2 (sub ! 0 refl (whole !))) (stop !))))) (from ! (stop !)) (init ! 10 refl (tt, tt)) $
       assigns ! (agg ! (and-then ! (load ! (from ! (stop !)) (look ! 10 refl)) (and-then ! (load ! (from ! (fld ! refl (stop !))) (look-in ! 2 (sub ! 1 refl (whole !)))) (no-more !)))) (from ! (stop !)) (init ! 12 refl (typed .0)) $
-      move ! (14 ∷ []) $ calls-at ! (fmOf 𝓤 H (W .laws) 𝓣) Con known y (and-then ! (load ! (from ! (stop !)) (look ! 13 refl)) (and-then ! (load ! (from ! (stop !)) (look ! 5 refl)) (and-then ! (load ! (from ! (stop !)) (look ! 7 refl)) (and-then ! (load ! (from ! (stop !)) (look ! 9 refl)) (no-more !))))) (λ v.
+      move ! (14 ∷ []) $ calls-at ! (fmOf 𝓤 H (W .laws) 𝓣) Con known y (copies 𝓤 H A 13 refl (copies 𝓤 H A 5 refl (copies 𝓤 H A 7 refl (copies 𝓤 H A 9 refl (no-more !))))) (λ v.
       passes-back 𝓤 H A thin.signature spec W (values 𝓤 H A thin.signature spec sp κs a ++ vptr (a .0 .ptr .0) (a .0 .ptr .1) ∷ sliceVal (a .0 .ptr) (length (a .0 .now)) ∷ []) y v (λ r is. LL.lawful R.the-type R′.the-laws 𝓤 H A W .typed r _ is .0))))
 
 pub rundhefja-layout-spec : {M : Type 1} → stated.statement M
