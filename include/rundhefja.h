@@ -1,7 +1,8 @@
 /* Circle layouts for pigment cards, proved. For x86-64 System V.
  *
  * A call gives the full answer or one numbered refusal, whatever it is handed. After a refusal all that was lent is as it was, to the byte, and what an answer
- * does not use is 0. No call allocates, keeps a pointer, prints, reads a global or ends the program, so calls may run in parallel.
+ * does not use is 0. No call allocates, keeps a pointer, prints or ends the program, and the library has no state, so calls may run in parallel. Of the C library
+ * it needs memcpy, memmove and memset.
  *
  * A run of records or numbers is a pointer and how many lie there. A pointer is never NULL, not even to an empty run. What a call rewrites may overlap nothing
  * else that it is lent. A struct that comes back has padding bytes, which are not set: compare its fields, not its bytes.
