@@ -8,29 +8,46 @@ use std::collections::BTreeMap;
 use std::hint::black_box;
 use std::time::Instant;
 
+#[repr(C)]
+#[derive(Clone, Copy)]
+struct Record {
+    x: f64,
+    y: f64,
+    radius: f64,
+}
+
+#[repr(C)]
+struct Answer {
+    refusal: u8,
+    count: usize,
+    numbers: [u8; 64],
+    moved: u64,
+    padding: f64,
+}
+
+#[repr(C)]
+struct Length {
+    refusal: u8,
+    value: f64,
+}
+
 #[link(name = "rundhefja", kind = "static")]
 unsafe extern "C" {
     fn rundhefja_layout(
-        circles: *mut f64,
+        circles: *mut Record,
         circles_len: usize,
         factor: f64,
         masks: *const u64,
         masks_len: usize,
         areas: *const f64,
         areas_len: usize,
-        numbers: *mut u8,
-        numbers_len: usize,
-        facts: *mut u64,
-        facts_len: usize,
-        padding: *mut f64,
-        padding_len: usize,
-    ) -> u8;
-    fn rundhefja_root(x: f64, root: *mut f64, root_len: usize) -> u8;
+    ) -> Answer;
+    safe fn rundhefja_root(x: f64) -> Length;
 }
 
 struct Card {
     factor: f64,
-    circles: Vec<f64>,
+    circles: Vec<Record>,
     masks: Vec<u64>,
     areas: Vec<f64>,
 }
@@ -42,15 +59,14 @@ impl Card {
         regions.dedup_by_key(|r| r.0);
         Card {
             factor: 0.015,
-            circles: circles.concat(),
+            circles: circles.iter().map(|&[x, y, radius]| Record { x, y, radius }).collect(),
             masks: regions.iter().map(|r| r.0).collect(),
             areas: regions.iter().map(|r| r.1).collect(),
         }
     }
-    fn port(&self) -> Vec<f64> {
+    fn port(&self) -> Vec<Record> {
         let mut circles = self.circles.clone();
-        let (mut numbers, mut facts, mut padding) = ([0u8; 64], [0u64; 2], [0.0; 1]);
-        let refusal = unsafe {
+        let answer = unsafe {
             rundhefja_layout(
                 circles.as_mut_ptr(),
                 circles.len(),
@@ -59,22 +75,16 @@ impl Card {
                 self.masks.len(),
                 self.areas.as_ptr(),
                 self.areas.len(),
-                numbers.as_mut_ptr(),
-                numbers.len(),
-                facts.as_mut_ptr(),
-                facts.len(),
-                padding.as_mut_ptr(),
-                padding.len(),
             )
         };
-        assert_eq!(refusal, 0);
+        assert_eq!(black_box(answer).refusal, 0);
         circles
     }
     fn areas_of(&self) -> BTreeMap<usize, f64> {
         self.masks.iter().zip(&self.areas).map(|(m, a)| (*m as usize, *a)).collect()
     }
     fn rust(&self, areas: &BTreeMap<usize, f64>) -> Vec<Circle> {
-        let mut shapes: Vec<Circle> = self.circles.chunks(3).map(|c| Circle::new(Point::new(c[0], c[1]), c[2])).collect();
+        let mut shapes: Vec<Circle> = self.circles.iter().map(|c| Circle::new(Point::new(c.x, c.y), c.radius)).collect();
         normalize_layout_with_clusters(&mut shapes, self.factor, Some(areas));
         shapes
     }
@@ -129,14 +139,21 @@ fn parents(random: &mut Random) -> Card {
     Card::new(&circles, &regions)
 }
 
-fn small(random: &mut Random) -> Card {
-    let n = 2 + random.next() as usize % 5;
+// n circles, a region for each and n regions of several at random.
+fn mixed(random: &mut Random, n: usize) -> Card {
     let circles: Vec<_> = (0..n).map(|_| random.circle()).collect();
     let mut regions: Vec<(u64, f64)> = (0..n).map(|i| (1u64 << i, 3.0)).collect();
+    let all = u64::MAX >> (64 - n);
     for _ in 0..n {
-        regions.push((1 + random.next() % ((1 << n) - 1), random.unit()));
+        let word = (random.next() << 32) ^ random.next();
+        regions.push((1 + word % all, random.unit()));
     }
     Card::new(&circles, &regions)
+}
+
+fn small(random: &mut Random) -> Card {
+    let n = 2 + random.next() as usize % 5;
+    mixed(random, n)
 }
 
 fn median(mut values: Vec<f64>) -> f64 {
@@ -166,8 +183,9 @@ fn report(name: &str, calls: usize, mut port: impl FnMut(), mut rust: impl FnMut
 fn layouts(name: &str, cards: Vec<Card>, repeats: usize) {
     let maps: Vec<_> = cards.iter().map(Card::areas_of).collect();
     for (card, map) in cards.iter().zip(&maps) {
-        let theirs: Vec<f64> = card.rust(map).iter().flat_map(|c| [c.center().x(), c.center().y(), c.radius()]).collect();
-        assert_eq!(card.port(), theirs, "{name}: the answers differ");
+        let theirs: Vec<_> = card.rust(map).iter().map(|c| [c.center().x(), c.center().y(), c.radius()]).collect();
+        let ours: Vec<_> = card.port().iter().map(|c| [c.x, c.y, c.radius]).collect();
+        assert_eq!(ours, theirs, "{name}: the answers differ");
     }
     report(
         name,
@@ -183,15 +201,16 @@ fn main() {
     layouts("64 circles in one cluster, 2,048 regions", (0..2).map(|_| one_cluster(random)).collect(), 20);
     layouts("32 parents with a child each", (0..4).map(|_| parents(random)).collect(), 10);
     layouts("small cards, 2 to 6 circles", (0..100).map(|_| small(random)).collect(), 20);
+    for n in [2, 3, 4, 6, 16, 64] {
+        layouts(&format!("{n} circles"), (0..20).map(|_| mixed(random, n)).collect(), 400 / n);
+    }
     let numbers: Vec<f64> = (0..100_000).map(|_| random.unit() * 1e6).collect();
     report(
         "the root alone",
         numbers.len(),
         || {
             for &x in &numbers {
-                let mut root = [0.0];
-                black_box(unsafe { rundhefja_root(black_box(x), root.as_mut_ptr(), 1) });
-                black_box(root);
+                black_box(rundhefja_root(black_box(x)));
             }
         },
         || {

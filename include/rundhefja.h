@@ -1,20 +1,21 @@
-/* Circle layouts for pigment cards, proved.
+/* Circle layouts for pigment cards, proved. For x86-64 System V.
  *
- * A call gives the full answer or one numbered refusal, whatever it is handed. After a refusal nothing is written: all that was lent is as it was. A list is a
- * pointer and how many numbers it has; a pointer to an empty list may be anything but NULL. No call keeps a pointer, allocates, or ends the program. Lists that
- * are written may not overlap any other list of the same call.
+ * A call gives the full answer or one numbered refusal, whatever it is handed. After a refusal all that was lent is as it was, to the byte, and what an answer
+ * does not use is 0. No call allocates, keeps a pointer, prints or ends the program, and the library has no state, so calls may run in parallel. Of the C library
+ * it needs memcpy, memmove and memset.
  *
- * Refusals: 0 none; 1 more than 64 circles or boxes; 2 more than 2,048 regions, or an input of more than 65,536 bytes; 3 a coordinate that is not finite or
- * above 2^20 in size; 4 a radius that is not finite or outside 2^-20 to 2^20; 5 masks that do not rise strictly; 6 a factor outside 0 to 1; 7 a side outside 0
- * to 2^23; 8 a padding outside 0 to 2^26; 9 a tag unknown or out of place; 10 a field's wrong length; 11 a file that ends inside a field; 12 the root of NaN or of
- * a number below 0; 13 lists of masks and areas of unequal length. The lowest that applies comes back, but 13 before 2; a card file is checked front to back, and its
- * values after that.
+ * A run of records or numbers is a pointer and how many lie there. A pointer is never NULL, not even to an empty run. What a call rewrites may overlap nothing
+ * else that it is lent. A struct that comes back has padding bytes, which are not set: compare its fields, not its bytes.
  *
- * A call needs up to 128 KB of stack; rundhefja_card_text needs most.
- */
+ * refusal: 0 none; 1 more than 64 circles or rectangles; 2 more than 2,048 regions, or an input of more than 65,536 bytes; 3 a coordinate that is not finite
+ * or above 2^20 in size; 4 a radius that is not finite or outside 2^-20 to 2^20; 5 masks that do not rise strictly; 6 a factor that is not finite or outside
+ * 0 to 1; 7 a side that is not finite or outside 0 to 2^23; 8 a padding that is not finite or outside 0 to 2^26; 9 a tag unknown or out of place; 10 a
+ * field's length wrong for its tag; 11 a file that ends inside a field; 12 the root of NaN or of a number below 0; 13 masks and areas of unequal number.
+ * The lowest that applies comes back, but 13 before 2; a file and a field are checked front to back, and a file's values after that. */
 #ifndef RUNDHEFJA_H
 #define RUNDHEFJA_H
 
+#include <stdbool.h>
 #include <stddef.h>
 #include <stdint.h>
 
@@ -22,36 +23,167 @@
 extern "C" {
 #endif
 
-/* The f64 nearest the exact root of x. Writes it to root[0], if root_len is not 0. Refuses 12. */
-uint8_t rundhefja_root(double x, double *root, size_t root_len);
+#define RUNDHEFJA_MAX_CIRCLES 64 /* and rectangles */
+#define RUNDHEFJA_MAX_REGIONS 2048
+#define RUNDHEFJA_MAX_INPUT 65536
+#define RUNDHEFJA_MAX_TEXT 4096
 
-/* Which of n circles belong together: those of one region whose area is finite and not at most the tolerance, which may be any number. masks and areas have an entry for
- * each region; bit i of a mask is circle i, and masks rise strictly. Writes the cluster of each circle to numbers, as many as fit, and how many clusters there are to count[0],
- * if count_len is not 0. Clusters are numbered from 0 by smallest member. Refuses 1, 13, 2, 5. */
-uint8_t rundhefja_clusters(size_t n, const uint64_t *masks, size_t masks_len, const double *areas, size_t areas_len, double tolerance,
-                           uint8_t *numbers, size_t numbers_len, uint64_t *count, size_t count_len);
+/* The most stack that a call uses, in bytes: rundhefja_card_text, and any other. */
+#define RUNDHEFJA_STACK_CARD_TEXT 106496
+#define RUNDHEFJA_STACK 49152
 
-/* Boxes in a grid, the largest first. sides has the width and the height of each box, as many boxes as whole pairs. Writes x and y of each box's centre to
- * centres, as many numbers as fit, in the order given. Refuses 1, 7, 8. */
-uint8_t rundhefja_pack(const double *sides, size_t sides_len, double padding, double *centres, size_t centres_len);
+/* ---- records */
 
-/* Moves a container (its centre, width and height) to the origin, the circles along, and the circles to its middle, unless they reach past its edge. circles has
- * x, y and radius of each, as many circles as whole triples, and is rewritten; numbers left over are untouched. Writes the container's x, y, width and height to placed,
- * as many as fit. Refuses 1, 3, 4, 7. */
-uint8_t rundhefja_container(double *circles, size_t circles_len, double x, double y, double width, double height, double *placed, size_t placed_len);
+typedef struct {
+    double x, y;
+} rundhefja_point;
 
-/* The whole layout. circles as above, rewritten; masks and areas as in rundhefja_clusters; factor says how much room lies between clusters. Writes the cluster of
- * each circle to numbers, as many as fit; to facts the cluster count and the mask of the circles that were moved inside their parents, as many as fit; to padding[0] the room
- * between clusters, if padding_len is not 0. Refuses 1, 13, 2, 3, 4, 5, 6.
+typedef struct {
+    rundhefja_point center;
+    double radius;
+} rundhefja_circle;
+
+typedef struct {
+    rundhefja_point center;
+    double width, height;
+} rundhefja_rectangle;
+
+typedef struct {
+    double x_min, x_max, y_min, y_max;
+} rundhefja_bounds;
+
+typedef struct {
+    rundhefja_point bottom_left, top_right;
+} rundhefja_corners;
+
+/* ---- answers */
+
+typedef struct {
+    uint8_t refusal;
+    double value;
+} rundhefja_length;
+
+typedef struct {
+    uint8_t refusal;
+    bool value;
+} rundhefja_test;
+
+typedef struct {
+    uint8_t refusal;
+    size_t value;
+} rundhefja_count;
+
+/* count: how many clusters. numbers: the cluster of each circle; clusters are numbered from 0, by smallest member. */
+typedef struct {
+    uint8_t refusal;
+    size_t count;
+    uint8_t numbers[RUNDHEFJA_MAX_CIRCLES];
+} rundhefja_clusters_result;
+
+/* rectangles: where each stands in the grid, in the order given. */
+typedef struct {
+    uint8_t refusal;
+    rundhefja_rectangle rectangles[RUNDHEFJA_MAX_CIRCLES];
+} rundhefja_pack_result;
+
+/* container: where it now stands; as given after a refusal. */
+typedef struct {
+    uint8_t refusal;
+    rundhefja_rectangle container;
+} rundhefja_container_result;
+
+/* count and numbers: the clusters, as above. moved: bit i stands for circle i, which was moved off its parent's centre. padding: the room between clusters. */
+typedef struct {
+    uint8_t refusal;
+    size_t count;
+    uint8_t numbers[RUNDHEFJA_MAX_CIRCLES];
+    uint64_t moved;
+    double padding;
+} rundhefja_layout_result;
+
+/* tag 1: factor; tag 2: circle; tag 3: mask and area. The body is body_length bytes of the file, from body_start on. */
+typedef struct {
+    uint8_t refusal;
+    uint8_t tag;
+    double factor;
+    rundhefja_circle circle;
+    uint64_t mask;
+    double area;
+    size_t body_start, body_length;
+} rundhefja_field_result;
+
+/* empty: the boxes share nothing. */
+typedef struct {
+    bool empty;
+    rundhefja_bounds bounds;
+} rundhefja_overlap;
+
+/* ---- the whole layout
  *
- * Promised of every accepted layout, to 1/65,536: circles of different clusters are the padding apart on one axis at least; circles of one cluster that were
- * not moved keep their distance; a moved circle does not reach past its parent; two circles have one cluster number exactly if a chain of regions joins them. */
-uint8_t rundhefja_layout(double *circles, size_t circles_len, double factor, const uint64_t *masks, size_t masks_len, const double *areas, size_t areas_len,
-                         uint8_t *numbers, size_t numbers_len, uint64_t *facts, size_t facts_len, double *padding, size_t padding_len);
+ * Moves children off their parents' centres, turns and mirrors each cluster, packs the clusters in a grid and centres the whole. Rewrites circles. Region j has
+ * the circles of the bits of masks[j], bit i for circle i, and the area areas[j]; masks rise strictly. factor says how much room lies between clusters.
+ * Refuses 1, 13, 2, 3, 4, 5, 6.
+ *
+ * Proved of each answer, to 1/65,536: circles of different clusters are the padding apart on one axis at least; circles of one cluster that were not moved keep
+ * their distance; a moved circle does not reach past its parent; two circles have one number exactly if a chain of regions joins them. */
+rundhefja_layout_result rundhefja_layout(rundhefja_circle *circles, size_t circles_len, double factor, const uint64_t *masks, size_t masks_len,
+                                         const double *areas, size_t areas_len);
 
-/* The text that program card prints for a card file. Returns how long it is, at most 4,096, and writes its bytes to text, as many as fit. A file that is refused has the
- * text "refused K\n". */
+/* Moves the container to the origin, the circles along, and the circles to its middle, unless they reach past its edge. Rewrites circles. Refuses 1, 3, 4, 7. */
+rundhefja_container_result rundhefja_container(rundhefja_circle *circles, size_t circles_len, rundhefja_rectangle container);
+
+/* ---- its parts */
+
+/* Circles belong together if their edges cross or one lies inside the other, and by chains of these. Refuses 1, 3, 4. */
+rundhefja_clusters_result rundhefja_clusters(const rundhefja_circle *circles, size_t circles_len);
+
+/* Circles 0 to n - 1 belong together if they share a region whose area is finite and not at most the tolerance, which may be any number, and by chains of these.
+ * Regions as above. Refuses 1, 13, 2, 5. */
+rundhefja_clusters_result rundhefja_area_clusters(size_t n, const uint64_t *masks, size_t masks_len, const double *areas, size_t areas_len, double tolerance);
+
+/* Rectangles in a grid, the largest first; their centres are not looked at. Refuses 1, 7, 8. */
+rundhefja_pack_result rundhefja_pack(const rundhefja_rectangle *rectangles, size_t rectangles_len, double padding);
+
+/* How many columns the grid of k rectangles has. Refuses 1. */
+rundhefja_count rundhefja_columns(size_t k);
+
+/* The double nearest the exact root; -0 and infinity give themselves. Refuses 12. */
+rundhefja_length rundhefja_root(double x);
+
+/* The distance of two points (refuses 3); of two circles, 0 if they touch or overlap (refuses 3, 4). */
+rundhefja_length rundhefja_point_distance(rundhefja_point p, rundhefja_point q);
+rundhefja_length rundhefja_distance(rundhefja_circle a, rundhefja_circle b);
+
+/* Is b inside a, whose edge it may touch? Is p inside c or on its edge? Do the edges cross, of which a touch is no crossing? Each refuses 3, 4. */
+rundhefja_test rundhefja_contains(rundhefja_circle a, rundhefja_circle b);
+rundhefja_test rundhefja_contains_point(rundhefja_circle c, rundhefja_point p);
+rundhefja_test rundhefja_intersects(rundhefja_circle a, rundhefja_circle b);
+
+/* ---- the card file */
+
+/* The field that starts at a place of a file. Refuses 11, 9, 10. */
+rundhefja_field_result rundhefja_field(const uint8_t *file, size_t file_len, size_t at);
+
+/* The text that program card prints for a file. Returns how long it is, at most 4,096, and writes its bytes to text, as many as fit; the rest of text stays. A
+ * file that is refused has the text "refused K\n". */
 size_t rundhefja_card_text(const uint8_t *input, size_t input_len, uint8_t *text, size_t text_len);
+
+/* ---- boxes and records: these take every double and refuse none */
+
+double rundhefja_bounds_width(rundhefja_bounds b);
+double rundhefja_bounds_height(rundhefja_bounds b);
+double rundhefja_bounds_area(rundhefja_bounds b);
+rundhefja_corners rundhefja_bounds_to_points(rundhefja_bounds b);
+
+/* The smallest box that holds both; what both share, which is nothing where they only touch. */
+rundhefja_bounds rundhefja_bounds_union(rundhefja_bounds a, rundhefja_bounds b);
+rundhefja_overlap rundhefja_bounds_intersection(rundhefja_bounds a, rundhefja_bounds b);
+
+rundhefja_bounds rundhefja_circle_bounds(rundhefja_circle c);
+rundhefja_bounds rundhefja_rectangle_bounds(rundhefja_rectangle r);
+
+/* The circle of three numbers. A radius below the smallest normal double, 2^-1022, is raised to it; a NaN stays. */
+rundhefja_circle rundhefja_circle_from_params(double x, double y, double radius);
 
 #ifdef __cplusplus
 }

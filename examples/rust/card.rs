@@ -1,73 +1,71 @@
 // Lays out a card of four inks and prints where each circle goes.
+#[repr(C)]
+#[derive(Clone, Copy)]
+struct Point {
+    x: f64,
+    y: f64,
+}
+
+#[repr(C)]
+#[derive(Clone, Copy)]
+struct Circle {
+    center: Point,
+    radius: f64,
+}
+
+#[repr(C)]
+struct Layout {
+    refusal: u8,
+    count: usize,
+    numbers: [u8; 64],
+    moved: u64,
+    padding: f64,
+}
+
 #[link(name = "rundhefja", kind = "static")]
 unsafe extern "C" {
     fn rundhefja_layout(
-        circles: *mut f64,
+        circles: *mut Circle,
         circles_len: usize,
         factor: f64,
         masks: *const u64,
         masks_len: usize,
         areas: *const f64,
         areas_len: usize,
-        numbers: *mut u8,
-        numbers_len: usize,
-        facts: *mut u64,
-        facts_len: usize,
-        padding: *mut f64,
-        padding_len: usize,
-    ) -> u8;
+    ) -> Layout;
 }
 
-struct Layout {
-    groups: Vec<u8>,
-    count: u64,
-    moved: u64,
-    padding: f64,
-}
-
-// Rewrites the circles, each x, y and radius, or gives the refusal's number and leaves them as they are.
-fn layout(circles: &mut [[f64; 3]], factor: f64, regions: &[(u64, f64)]) -> Result<Layout, u8> {
-    let masks: Vec<u64> = regions.iter().map(|r| r.0).collect();
-    let areas: Vec<f64> = regions.iter().map(|r| r.1).collect();
-    let mut groups = vec![0; circles.len()];
-    let mut facts = [0; 2];
-    let mut padding = [0.0];
-    let flat = circles.as_flattened_mut();
-    let refusal = unsafe {
+// Rewrites the circles, or gives the refusal's number and leaves them as they are.
+fn layout(circles: &mut [Circle], factor: f64, masks: &[u64], areas: &[f64]) -> Result<Layout, u8> {
+    // A slice's pointer is never null, and the borrow checker keeps the circles apart from the rest.
+    let r = unsafe {
         rundhefja_layout(
-            flat.as_mut_ptr(),
-            flat.len(),
+            circles.as_mut_ptr(),
+            circles.len(),
             factor,
             masks.as_ptr(),
             masks.len(),
             areas.as_ptr(),
             areas.len(),
-            groups.as_mut_ptr(),
-            groups.len(),
-            facts.as_mut_ptr(),
-            facts.len(),
-            padding.as_mut_ptr(),
-            padding.len(),
         )
     };
-    if refusal != 0 {
-        return Err(refusal);
-    }
-    Ok(Layout { groups, count: facts[0], moved: facts[1], padding: padding[0] })
+    if r.refusal == 0 { Ok(r) } else { Err(r.refusal) }
 }
 
 fn main() {
     let names = ["ocean", "teal", "rust", "sand"];
-    let mut circles = [[0.0, 0.0, 20.0], [2.0, 1.0, 5.0], [60.0, 10.0, 15.0], [75.0, 30.0, 12.0]];
+    let circle = |x, y, radius| Circle { center: Point { x, y }, radius };
+    let mut inks = [circle(0.0, 0.0, 20.0), circle(2.0, 1.0, 5.0), circle(60.0, 10.0, 15.0), circle(75.0, 30.0, 12.0)];
     // ocean alone, ocean and teal, rust alone, sand alone, rust and sand
-    let regions = [(1, 1178.0), (3, 78.0), (4, 640.0), (8, 390.0), (12, 60.0)];
-    match layout(&mut circles, 0.1, &regions) {
+    let masks = [1, 3, 4, 8, 12];
+    let areas = [1178.0, 78.0, 640.0, 390.0, 60.0];
+    match layout(&mut inks, 0.1, &masks, &areas) {
         Err(refusal) => println!("refused {refusal}"),
         Ok(l) => {
             println!("{} groups, {:.3} mm apart", l.count, l.padding);
-            for (i, [x, y, radius]) in circles.iter().enumerate() {
+            for (i, ink) in inks.iter().enumerate() {
                 let moved = if l.moved >> i & 1 == 1 { ", moved off its parent's centre" } else { "" };
-                println!("{:<5} group {} at {x:8.3} {y:8.3} radius {radius}{moved}", names[i], l.groups[i]);
+                println!("{:<5} group {} at {:8.3} {:8.3} radius {}{moved}", names[i], l.numbers[i], ink.center.x, ink.center.y, ink.radius);
             }
         }
     }

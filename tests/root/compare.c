@@ -8,8 +8,7 @@
 #include <string.h>
 #include <time.h>
 
-uint8_t card_root_refusal(double x);
-double card_root_value(double x);
+#include "rundhefja.h"
 
 enum { REFUSED = 12 };
 
@@ -39,17 +38,17 @@ static uint64_t agreed, differing;
 
 static void compare(uint64_t b) {
     double x = of(b);
-    uint8_t refusal = card_root_refusal(x);
-    uint64_t got = bits(card_root_value(x));
+    rundhefja_length root = rundhefja_root(x);
+    uint64_t got = bits(root.value);
     uint8_t want_refusal = is_refused(x) ? REFUSED : 0;
     uint64_t want = is_refused(x) ? 0 : bits(machine_root(x));
-    if (refusal == want_refusal && got == want) {
+    if (root.refusal == want_refusal && got == want) {
         agreed++;
         return;
     }
     differing++;
     if (differing <= 10)
-        printf("differs at %016" PRIx64 ": %u %016" PRIx64 ", the machine %u %016" PRIx64 "\n", b, refusal, got, want_refusal, want);
+        printf("differs at %016" PRIx64 ": %u %016" PRIx64 ", the machine %u %016" PRIx64 "\n", b, root.refusal, got, want_refusal, want);
 }
 
 static void around(void (*use)(uint64_t), uint64_t b) { use(b - 1); use(b); use(b + 1); }
@@ -129,7 +128,7 @@ static volatile double sink;
 
 static double time_ours(void) {
     double sum = 0, start = now();
-    for (int r = 0; r < TURNS; r++) for (int i = 0; i < NUMBERS; i++) sum += card_root_value(numbers[i]);
+    for (int r = 0; r < TURNS; r++) for (int i = 0; i < NUMBERS; i++) sum += rundhefja_root(numbers[i]).value;
     sink = sum;
     return (now() - start) / TURNS / NUMBERS;
 }

@@ -22,7 +22,7 @@ pub enum Field {
 }
 
 // The tag and the length.
-pub(crate) const HEAD_LENGTH: usize = 3;
+pub const HEAD_LENGTH: usize = 3;
 
 // The field that starts at a place. Refused: cut short (11), an unknown tag (9), a wrong length (10).
 pub fn read_field(file: &[u8], at: usize) -> Field

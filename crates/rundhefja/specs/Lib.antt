@@ -1,4 +1,2 @@
-pub mod Written
 pub mod Answers
-pub mod Pairs
-pub mod Flat
+pub mod Written

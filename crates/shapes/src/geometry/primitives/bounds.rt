@@ -6,6 +6,7 @@ use crate::extremes::maximum;
 use crate::extremes::minimum;
 use crate::geometry::primitives::point::Point;
 
+#[repr(C)]
 pub struct Bounds {
     pub x_min: f64,
     pub x_max: f64,
@@ -13,6 +14,7 @@ pub struct Bounds {
     pub y_max: f64,
 }
 
+#[repr(C)]
 pub struct Corners {
     pub bottom_left: Point,
     pub top_right: Point,

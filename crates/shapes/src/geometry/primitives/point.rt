@@ -2,6 +2,7 @@
 ghost use mathlib.Core.Path.{_≡_};
 ghost use Rattle.shapes.specs.Records.{pointAt};
 
+#[repr(C)]
 pub struct Point {
     pub x: f64,
     pub y: f64,

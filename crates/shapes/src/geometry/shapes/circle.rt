@@ -7,6 +7,7 @@ use crate::extremes::maximum;
 use crate::geometry::primitives::bounds::Bounds;
 use crate::geometry::primitives::point::Point;
 
+#[repr(C)]
 pub struct Circle {
     pub center: Point,
     pub radius: f64,

@@ -5,6 +5,7 @@ ghost use Rattle.shapes.specs.Boxes.{rectangleBox};
 use crate::geometry::primitives::bounds::Bounds;
 use crate::geometry::primitives::point::Point;
 
+#[repr(C)]
 pub struct Rectangle {
     pub center: Point,
     pub width: f64,

@@ -1,0 +1,104 @@
+// A field of a card file, and the text that program `card` prints for one.
+ghost use mathlib.Core.Path.{_≡_};
+ghost use Prim.Native.Nat.{min};
+ghost use lib.ListN.{length, take, drop};
+ghost use Rattle.scope.specs.CardFile.{readField, fieldBody};
+ghost use Rattle.scope.specs.Print.{cardText};
+ghost use Rattle.card_file.specs.Answers.{fieldAnswer};
+ghost use Rattle.card_file.specs.Parts.{bodyPlace};
+ghost use Rattle.rundhefja.specs.Answers.{fieldRead};
+ghost use Rattle.rundhefja.specs.Written.{written};
+use crate::answers::FieldRead;
+use card_file::card_text;
+use card_file::fields::Field;
+use card_file::fields::HEAD_LENGTH;
+use card_file::fields::field_body;
+use card_file::fields::read_field;
+use shapes::geometry::primitives::point::Point;
+use shapes::geometry::shapes::circle::Circle;
+
+// The field, and its body as a place in the file and a length: both 0 where the field is refused.
+#[no_mangle]
+pub extern "C" fn rundhefja_field(file: &[u8], at: usize) -> FieldRead
+    ensures answer { λ r. ⌜ r ≡ fieldRead (readField (now (file .entry)) at) (bodyPlace (now (file .entry)) at) (length (fieldBody (now (file .entry)) at)) ⌝ }
+    ensures body { λ r. ⌜ take (r .«body_length») (drop (r .«body_start») (now (file .entry))) ≡ fieldBody (now (file .entry)) at ⌝ }
+{
+    let length = body_length(file, at);
+    let start = if length == 0 { 0 } else { at + HEAD_LENGTH };
+    field_read(read_field(file, at), start, length)
+}
+
+// How long the text is, at most 4,096 bytes, however many of them there is room for.
+#[no_mangle]
+pub extern "C" fn rundhefja_card_text(input: &[u8], text: &mut [u8]) -> usize
+    ensures { λ r. ⌜ (r ≡ length (cardText (now (input .entry)))) × (now (text .exit) ≡ written (cardText (now (input .entry))) (now (text .entry))) ⌝ }
+{
+    let printed = card_text(input);
+    let bytes = printed.bytes;
+    let length = printed.length;
+    write_bytes(text, &bytes[..length]);
+    length
+}
+
+// ---- a field's value in its parts
+
+fn body_length(file: &[u8], at: usize) -> usize
+    ensures { λ r. ⌜ r ≡ length (fieldBody (now (file .entry)) at) ⌝ }
+{
+    let body = field_body(file, at);
+    body.len()
+}
+
+fn field_read(field: Field, start: usize, length: usize) -> FieldRead
+    ensures { λ r. ⌜ r ≡ fieldRead (fieldAnswer field) start length ⌝ }
+{
+    let mut read = FieldRead {
+        refusal: 0,
+        tag: 0,
+        factor: 0.0,
+        circle: Circle {
+            center: Point { x: 0.0, y: 0.0 },
+            radius: 0.0,
+        },
+        mask: 0,
+        area: 0.0,
+        body_start: start,
+        body_length: length,
+    };
+    match field {
+        Field::Refused(refusal) => read.refusal = refusal,
+        Field::Factor(factor) => {
+            read.tag = 1;
+            read.factor = factor;
+        }
+        Field::Circle(circle) => {
+            read.tag = 2;
+            read.circle = circle;
+        }
+        Field::Region(mask, area) => {
+            read.tag = 3;
+            read.mask = mask;
+            read.area = area;
+        }
+    }
+    read
+}
+
+// ---- a lent list, written from its start: as much as there is room for, and the rest stays as it was
+
+fn write_bytes(out: &mut [u8], bytes: &[u8])
+    ensures { λ _. ⌜ now (out .exit) ≡ written (now (bytes .entry)) (now (out .entry)) ⌝ }
+{
+    let end = smaller(bytes.len(), out.len());
+    let mut i: usize = 0;
+    while i < end {
+        out[i] = bytes[i];
+        i += 1;
+    }
+}
+
+fn smaller(a: usize, b: usize) -> usize
+    ensures { λ r. ⌜ r ≡ min a b ⌝ }
+{
+    if a < b { a } else { b }
+}

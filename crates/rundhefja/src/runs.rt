@@ -1,0 +1,70 @@
+// Clustering, packing and layouts of the records that a caller lends.
+ghost use mathlib.Core.Path.{_≡_};
+ghost use Rattle.scope.specs.Links.{regions};
+ghost use Rattle.scope.specs.Groups.{plainGrouping, areaGrouping};
+ghost use Rattle.scope.specs.Packing.{skylinePack};
+ghost use Rattle.scope.specs.Container.{contained};
+ghost use Rattle.scope.specs.Layout.{layout};
+ghost use Rattle.scope.specs.Promises.{Promises};
+ghost use Rattle.promises.specs.Demand3.{bound};
+ghost use Rattle.grouping.specs.Answers.{grouped, NumbersByChains};
+ghost use Rattle.grid.specs.Packing.{packedBoxes};
+ghost use Rattle.layout.specs.Answers.{resultOf};
+ghost use Rattle.layout.specs.First.{placedOf};
+use grid::packing::Packed;
+use grid::packing::skyline_pack;
+use grouping::clustering::Clusters;
+use grouping::clustering::find_clusters;
+use grouping::clustering::find_clusters_from_exclusive_regions;
+use layout::normalize::Placed;
+use layout::normalize::Result;
+use layout::normalize::normalize_layout_with_clusters;
+use layout::normalize::normalize_layout_with_container;
+use shapes::geometry::shapes::circle::Circle;
+use shapes::geometry::shapes::rectangle::Rectangle;
+
+#[no_mangle]
+pub extern "C" fn rundhefja_clusters(circles: &[Circle]) -> Clusters
+    ensures { λ r. ⌜ grouped r ≡ plainGrouping (now (circles .entry)) ⌝ }
+{
+    find_clusters(circles)
+}
+
+#[no_mangle]
+pub extern "C" fn rundhefja_area_clusters(
+    n: usize,
+    masks: &[u64],
+    areas: &[f64],
+    tolerance: f64,
+) -> Clusters
+    ensures answer { λ r. ⌜ grouped r ≡ areaGrouping n (now (masks .entry)) (now (areas .entry)) tolerance ⌝ }
+    ensures chains { λ r. ⌜ (r .refusal ≡ 0 → NumbersByChains n tolerance (regions (now (masks .entry)) (now (areas .entry))) (r .numbers)) ⌝ }
+{
+    find_clusters_from_exclusive_regions(n, masks, areas, tolerance)
+}
+
+#[no_mangle]
+pub extern "C" fn rundhefja_pack(rectangles: &[Rectangle], padding: f64) -> Packed
+    ensures { λ r. ⌜ packedBoxes r ≡ skylinePack (now (rectangles .entry)) padding ⌝ }
+{
+    skyline_pack(rectangles, padding)
+}
+
+#[no_mangle]
+pub extern "C" fn rundhefja_container(circles: &mut [Circle], container: Rectangle) -> Placed
+    ensures { λ r. ⌜ (r ≡ placedOf (contained (now (circles .entry)) container)) × (now (circles .exit) ≡ contained (now (circles .entry)) container .circles) ⌝ }
+{
+    normalize_layout_with_container(circles, container)
+}
+
+#[no_mangle]
+pub extern "C" fn rundhefja_layout(
+    circles: &mut [Circle],
+    factor: f64,
+    masks: &[u64],
+    areas: &[f64],
+) -> Result
+    ensures { λ r. ⌜ (resultOf r ≡ layout (now (circles .entry)) factor (now (masks .entry)) (now (areas .entry)) .result) × (now (circles .exit) ≡ layout (now (circles .entry)) factor (now (masks .entry)) (now (areas .entry)) .circles) × (r .refusal ≡ 0 → Promises bound (now (circles .entry)) (regions (now (masks .entry)) (now (areas .entry))) (resultOf r) (now (circles .exit))) ⌝ }
+{
+    normalize_layout_with_clusters(circles, factor, masks, areas)
+}
