@@ -16,7 +16,7 @@ use crate::answers::Length;
 use crate::answers::Test;
 use geometry::circle::Decided;
 use geometry::point::Measured;
-use grid::packing::ColumnCount;
+use packing::ColumnCount;
 use root::answers::Root;
 use shapes::geometry::primitives::point::Point;
 use shapes::geometry::shapes::circle::Circle;
@@ -74,7 +74,7 @@ pub extern "C" fn rundhefja_intersects(a: Circle, b: Circle) -> Test
 pub extern "C" fn rundhefja_columns(k: usize) -> Count
     ensures { λ r. ⌜ r ≡ countOf (columnsAnswer k) ⌝ }
 {
-    let answer = grid::packing::columns(k);
+    let answer = packing::columns(k);
     match answer {
         ColumnCount::Of(value) => Count { refusal: 0, value },
         ColumnCount::Refused(refusal) => Count { refusal, value: 0 },

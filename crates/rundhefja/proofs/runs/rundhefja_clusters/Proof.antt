@@ -23,11 +23,11 @@ use denote.Triple.Call.{calls-at}
 use denote.Triple.Spec.{Spec, Meets, tripleOf}
 use denote.Triple.Table.{entered, cited}
 use Rattle.shapes.proofs.geometry.shapes.circle.Circle as T
-use Rattle.grouping.proofs.clustering.Clusters as R
-use Rattle.grouping.proofs.clustering.Clusters.Laws as R′
-use Rattle.grouping.proofs.clustering.find_clusters.Symbol as callee-def
-use Rattle.grouping.proofs.clustering.find_clusters.Symbol.{name as #callee}
-use Rattle.grouping.proofs.clustering.find_clusters.Met as callee-thm
+use Rattle.clustering.proofs.Clusters as R
+use Rattle.clustering.proofs.Clusters.Laws as R′
+use Rattle.clustering.proofs.find_clusters.Symbol as callee-def
+use Rattle.clustering.proofs.find_clusters.Symbol.{name as #callee}
+use Rattle.clustering.proofs.find_clusters.Met as callee-thm
 use Rattle.rundhefja.proofs.PassOn.{values, entry, enters, opens, copies, passes-back}
 use Rattle.rundhefja.proofs.runs.rundhefja_clusters.Key.{name as #call}
 use Rattle.rundhefja.proofs.runs.rundhefja_clusters as thin
@@ -61,4 +61,4 @@ rundhefja-clusters-spec 𝓤 H 𝓜 𝓖 𝓡 =
     let Con = Con 𝓤 H (𝓖 .A) (givenOf 𝓤 H 𝓜 𝓖) (𝓜 .mem) (𝓡 .run) in
     entered 𝓤 H Con (tables 𝓤 H 𝓜 𝓡 code.env .C) (tables 𝓤 H 𝓜 𝓡 code.env .Λ) #call code.function (code.unfolded 𝓤 H 𝓜 𝓡)
     (meets 𝓤 H (𝓖 .A) (givenOf 𝓤 H 𝓜 𝓖) (𝓜 .mem) (𝓡 .run) (tablesOf 𝓤 H 𝓜 (tables 𝓤 H 𝓜 𝓡 code.env))
-    (cited 𝓤 H Con 𝓜 𝓡 code.env #callee callee-def.routine code.calls-grouping·clustering·find-clusters (callee-thm.met 𝓤 H 𝓜 𝓖 𝓡)))
+    (cited 𝓤 H Con 𝓜 𝓡 code.env #callee callee-def.routine code.calls-clustering·find-clusters (callee-thm.met 𝓤 H 𝓜 𝓖 𝓡)))

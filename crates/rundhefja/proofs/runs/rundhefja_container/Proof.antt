@@ -28,11 +28,11 @@ use denote.Triple.Table.{entered, cited}
 use Rattle.shapes.proofs.geometry.shapes.circle.Circle as T
 use Rattle.shapes.proofs.geometry.shapes.rectangle.Rectangle as Q
 use Rattle.shapes.proofs.geometry.shapes.rectangle.Rectangle.Laws as Q′
-use Rattle.layout.proofs.normalize.Placed as R
-use Rattle.layout.proofs.normalize.Placed.Laws as R′
-use Rattle.layout.proofs.normalize.normalize_layout_with_container.Symbol as callee-def
-use Rattle.layout.proofs.normalize.normalize_layout_with_container.Symbol.{name as #callee}
-use Rattle.layout.proofs.normalize.normalize_layout_with_container.Met as callee-thm
+use Rattle.layout.proofs.container.Placed as R
+use Rattle.layout.proofs.container.Placed.Laws as R′
+use Rattle.layout.proofs.container.normalize_layout_with_container.Symbol as callee-def
+use Rattle.layout.proofs.container.normalize_layout_with_container.Symbol.{name as #callee}
+use Rattle.layout.proofs.container.normalize_layout_with_container.Met as callee-thm
 use Rattle.rundhefja.proofs.PassOn.{values, entry, enters, opens, copies, passes-back}
 use Rattle.rundhefja.proofs.runs.rundhefja_container.Key.{name as #call}
 use Rattle.rundhefja.proofs.runs.rundhefja_container as thin
@@ -69,4 +69,4 @@ rundhefja-container-spec 𝓤 H 𝓜 𝓖 𝓡 =
     let Con = Con 𝓤 H (𝓖 .A) (givenOf 𝓤 H 𝓜 𝓖) (𝓜 .mem) (𝓡 .run) in
     entered 𝓤 H Con (tables 𝓤 H 𝓜 𝓡 code.env .C) (tables 𝓤 H 𝓜 𝓡 code.env .Λ) #call code.function (code.unfolded 𝓤 H 𝓜 𝓡)
     (meets 𝓤 H (𝓖 .A) (givenOf 𝓤 H 𝓜 𝓖) (𝓜 .mem) (𝓡 .run) (tablesOf 𝓤 H 𝓜 (tables 𝓤 H 𝓜 𝓡 code.env))
-    (cited 𝓤 H Con 𝓜 𝓡 code.env #callee callee-def.routine code.calls-layout·normalize·normalize-layout-with-container (callee-thm.met 𝓤 H 𝓜 𝓖 𝓡)))
+    (cited 𝓤 H Con 𝓜 𝓡 code.env #callee callee-def.routine code.calls-layout·container·normalize-layout-with-container (callee-thm.met 𝓤 H 𝓜 𝓖 𝓡)))

@@ -25,11 +25,11 @@ use denote.Triple.Call.{calls-at}
 use denote.Triple.Spec.{Spec, Meets, tripleOf}
 use denote.Triple.Table.{entered, cited}
 use Rattle.shapes.proofs.geometry.shapes.rectangle.Rectangle as T
-use Rattle.grid.proofs.packing.Packed as R
-use Rattle.grid.proofs.packing.Packed.Laws as R′
-use Rattle.grid.proofs.packing.skyline_pack.Symbol as callee-def
-use Rattle.grid.proofs.packing.skyline_pack.Symbol.{name as #callee}
-use Rattle.grid.proofs.packing.skyline_pack.Met as callee-thm
+use Rattle.packing.proofs.Packed as R
+use Rattle.packing.proofs.Packed.Laws as R′
+use Rattle.packing.proofs.skyline_pack.Symbol as callee-def
+use Rattle.packing.proofs.skyline_pack.Symbol.{name as #callee}
+use Rattle.packing.proofs.skyline_pack.Met as callee-thm
 use Rattle.rundhefja.proofs.PassOn.{values, entry, enters, opens, copies, passes-back}
 use Rattle.rundhefja.proofs.runs.rundhefja_pack.Key.{name as #call}
 use Rattle.rundhefja.proofs.runs.rundhefja_pack as thin
@@ -63,4 +63,4 @@ rundhefja-pack-spec 𝓤 H 𝓜 𝓖 𝓡 =
     let Con = Con 𝓤 H (𝓖 .A) (givenOf 𝓤 H 𝓜 𝓖) (𝓜 .mem) (𝓡 .run) in
     entered 𝓤 H Con (tables 𝓤 H 𝓜 𝓡 code.env .C) (tables 𝓤 H 𝓜 𝓡 code.env .Λ) #call code.function (code.unfolded 𝓤 H 𝓜 𝓡)
     (meets 𝓤 H (𝓖 .A) (givenOf 𝓤 H 𝓜 𝓖) (𝓜 .mem) (𝓡 .run) (tablesOf 𝓤 H 𝓜 (tables 𝓤 H 𝓜 𝓡 code.env))
-    (cited 𝓤 H Con 𝓜 𝓡 code.env #callee callee-def.routine code.calls-grid·packing·skyline-pack (callee-thm.met 𝓤 H 𝓜 𝓖 𝓡)))
+    (cited 𝓤 H Con 𝓜 𝓡 code.env #callee callee-def.routine code.calls-packing·skyline-pack (callee-thm.met 𝓤 H 𝓜 𝓖 𝓡)))
