@@ -15,7 +15,7 @@ use Rattle.scope.specs.Layout.{Layout, layout}
 use Rattle.scope.specs.CardFile.{readCard}
 use Rattle.scope.specs.Print.{printed, refusedText, answerText, cardText}
 use Rattle.layout.specs.FirstLayout.{firstLayout}
-use Rattle.layout.proofs.WholeLayout.{layout-length}
+use Rattle.layout.proofs.Lengths.{layout-length}
 use Rattle.card_file.specs.Texts.{layoutOf}
 use Rattle.card_file.specs.Answers.{ReadCard}
 

@@ -1,3 +1,4 @@
+pub mod Lengths
 pub mod MaskShifts
 pub mod LoneBits
 pub mod RegionFolds

@@ -1,8 +1,8 @@
 // Clusterings: the refusal's number, the count, 64 cluster numbers.
 ghost use Prim.Native.Nat.{_≤_};
 use crate::read;
-use grouping::clustering;
-use grouping::clustering::Clusters;
+use clustering;
+use clustering::Clusters;
 use intake::lent::blank;
 use shapes::geometry::shapes::circle::Circle;
 

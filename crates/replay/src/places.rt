@@ -1,11 +1,11 @@
 // Column counts, packing and the container call.
 use crate::groups;
 use crate::read;
-use grid::packing;
-use grid::packing::ColumnCount;
-use grid::packing::Packed;
-use layout::normalize;
-use layout::normalize::InContainer;
+use packing;
+use packing::ColumnCount;
+use packing::Packed;
+use layout::container;
+use layout::container::InContainer;
 use shapes::geometry::primitives::point::Point;
 use shapes::geometry::shapes::circle::Circle;
 use shapes::geometry::shapes::rectangle::Rectangle;
@@ -86,7 +86,7 @@ pub fn container_agrees(body: &[u8]) -> bool {
         return false;
     }
     let container = read::rectangle(body, 1);
-    let answer = normalize::normalize_layout_with_container_by_value(
+    let answer = container::normalize_layout_with_container_by_value(
         groups::circles(body, 33, n),
         n,
         container,

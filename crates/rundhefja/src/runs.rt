@@ -10,7 +10,7 @@ ghost use Rattle.promises.specs.Demand3.{bound};
 ghost use Rattle.clustering.specs.Answers.{grouped, NumbersByChains};
 ghost use Rattle.packing.specs.Packing.{packedBoxes};
 ghost use Rattle.layout.specs.Answers.{resultOf};
-ghost use Rattle.layout.specs.First.{placedOf};
+ghost use Rattle.layout.specs.Answers.{placedOf};
 use packing::Packed;
 use packing::skyline_pack;
 use clustering::Clusters;
