@@ -1,7 +1,7 @@
 -- `rundhefja_columns` meets its contract: the answer in two fields.
 use mathlib.Core.Path.{ap, sym, _∙_}
 use borrow.Author.Needs.{needs}
-use Rattle.packing.specs.Packing.{counted}
+use Rattle.packing.specs.Answers.{counted}
 use Rattle.rundhefja.specs.Answers.{countOf}
 use Rattle.rundhefja.proofs.measures.rundhefja_columns.Statement.{statement}
 use Rattle.rundhefja.proofs.measures.rundhefja_columns.Tie as tie
