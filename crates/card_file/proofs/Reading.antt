@@ -10,7 +10,7 @@ use lib.ListN.{length, drop, set, replicate, length-drop, drop-of-length-le}
 use lib.Seq.{drop-drop}
 use lib.Ieee.{Float}
 use borrow.Author.Tests.{eq-eqb, ne-eqb}
-use Rattle.shapes.specs.declared.geometry.shapes.circle.Circle.{Circle}
+use Rattle.shapes.specs.declared.circle.Circle.{Circle}
 use Rattle.scope.specs.Numbers.{nought}
 use Rattle.scope.specs.Limits.{circleCap, regionCap}
 use Rattle.scope.specs.Refusals.{Answer, refused, given, tooMany, tooManyRegions}

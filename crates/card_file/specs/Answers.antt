@@ -3,7 +3,7 @@ use Prim.Native.Nat.{ℕ}
 use mathlib.Core.List.{List, []}
 use lib.ListN.{take, replicate}
 use lib.Ieee.{Float}
-use Rattle.shapes.specs.declared.geometry.shapes.circle.Circle as shapes
+use Rattle.shapes.specs.declared.circle.Circle as shapes
 use Rattle.scope.specs.Numbers.{nought}
 use Rattle.scope.specs.Refusals.{Answer, refused, given, answer}
 use Rattle.scope.specs.CardFile.{factorField, circleField, regionField}

@@ -28,7 +28,7 @@ use intake::limits::MAX_REGIONS;
 use intake::limits::too_many;
 use intake::limits::too_many_regions;
 use intake::runs::split_array;
-use shapes::geometry::shapes::circle::Circle;
+use shapes::circle::Circle;
 
 // A refusal's number or 0, the factor, n circles and m regions. Each area stands beside its pattern, and what is not used is 0.
 pub struct Card {

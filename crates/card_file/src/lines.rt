@@ -12,7 +12,7 @@ use crate::MAX_TEXT;
 use crate::Text;
 use bits::bits_of;
 use intake::limits::MAX_CIRCLES;
-use shapes::geometry::shapes::circle::Circle;
+use shapes::circle::Circle;
 
 // What a refusal prints.
 pub(crate) fn refused_text(number: u8) -> Text

@@ -14,7 +14,7 @@ use lib.Ieee.Scale.{finite}
 use borrow.Author.Tests.{lt-ltb, le-ltb, eq-eqb, ne-eqb}
 use Rattle.scope.specs.Numbers.{_≤ᶠ_}
 use Rattle.scope.specs.Runs.{bit}
-use Rattle.shapes.specs.declared.geometry.shapes.circle.Circle.{Circle}
+use Rattle.shapes.specs.declared.circle.Circle.{Circle}
 use Rattle.scope.specs.Links.{Region, regions, counts, share, linkedByRegions, circle}
 use Rattle.promises.proofs.Regions.{length-regions, getD-regions}
 use Rattle.promises.proofs.OneMoreRegion.{share-append}

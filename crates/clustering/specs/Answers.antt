@@ -6,7 +6,7 @@ use mathlib.Core.Bool.{cond}
 use mathlib.Core.List.{List}
 use lib.ListN.{getD, take}
 use lib.Ieee.{Float}
-use Rattle.shapes.specs.declared.geometry.shapes.circle.Circle.{Circle}
+use Rattle.shapes.specs.declared.circle.Circle.{Circle}
 use Rattle.scope.specs.Refusals.{tooMany}
 use Rattle.scope.specs.Links.{Region}
 use Rattle.scope.specs.Groups.{Grouping, plainClusters, grouping, plainGrouping}

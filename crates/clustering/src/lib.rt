@@ -33,8 +33,8 @@ use intake::masks::holds;
 use intake::runs::split;
 use intake::runs::split_array;
 use shapes::extremes::maximum;
-use shapes::geometry::primitives::point::Point;
-use shapes::geometry::shapes::circle::Circle;
+use shapes::point::Point;
+use shapes::circle::Circle;
 
 // A refusal's number or 0, how many clusters there are, and the cluster of each circle. What is not used is 0.
 #[repr(C)]

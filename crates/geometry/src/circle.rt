@@ -18,8 +18,8 @@ use crate::point::raw_distance;
 use intake::causes::number_of;
 use intake::causes::of_circle_and_point;
 use intake::causes::of_pair;
-use shapes::geometry::primitives::point::Point;
-use shapes::geometry::shapes::circle::Circle;
+use shapes::point::Point;
+use shapes::circle::Circle;
 
 // Yes or no, or a refusal's number.
 pub enum Decided {

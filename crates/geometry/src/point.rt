@@ -8,7 +8,7 @@ ghost use Rattle.geometry.specs.Answers.{measured};
 use intake::causes::number_of;
 use intake::causes::of_points;
 use root::answers::Root;
-use shapes::geometry::primitives::point::Point;
+use shapes::point::Point;
 
 // A length, or a refusal's number.
 pub enum Measured {

@@ -8,7 +8,7 @@ use mathlib.Core.List.{List}
 use lib.ListN.{length, take}
 use borrow.Author.Tests.{ltb-false}
 use lib.Seq.{length-take-le, getD-take}
-use Rattle.shapes.specs.declared.geometry.shapes.circle.Circle.{Circle}
+use Rattle.shapes.specs.declared.circle.Circle.{Circle}
 use Rattle.scope.specs.Runs.{any, someBelow}
 use Rattle.scope.specs.Limits.{circleCap}
 use Rattle.scope.specs.Links.{circle, nowhere}

@@ -10,8 +10,8 @@ use lib.ListN.{length, getD, take, drop, length-take}
 use lib.Seq.{take-length, drop-length, length-take-le, drop-cons, getD-at, take-all, ext-getD}
 use lib.Dec.{T}
 use lib.Ieee.{Float, nan}
-use Rattle.shapes.specs.declared.geometry.shapes.circle.Circle.{Circle}
-use Rattle.shapes.specs.declared.geometry.shapes.rectangle.Rectangle.{Rectangle}
+use Rattle.shapes.specs.declared.circle.Circle.{Circle}
+use Rattle.shapes.specs.declared.rectangle.Rectangle.{Rectangle}
 use Rattle.shapes.specs.Records.{pointAt}
 use Rattle.scope.specs.Numbers.{_+ᶠ_}
 use Rattle.scope.specs.Runs.{tab, any, someBelow}

@@ -30,8 +30,8 @@ use denote.Triple.Call.{calls-at}
 use denote.Triple.Entry.{Args}
 use denote.Triple.Clauses.{Lasts, ensured, lasts}
 use denote.Triple.Spec.{tripleOf}
-use Rattle.shapes.specs.declared.geometry.shapes.rectangle.Rectangle.{Rectangle}
-use Rattle.shapes.proofs.geometry.shapes.rectangle.Rectangle as T
+use Rattle.shapes.specs.declared.rectangle.Rectangle.{Rectangle}
+use Rattle.shapes.proofs.rectangle.Rectangle as T
 use Rattle.intake.specs.Columns.{widthsOf, heightsOf}
 use Rattle.intake.proofs.NumberArrays.{F64s}
 use Rattle.intake.proofs.TakenCalls.{numberOf}

@@ -31,8 +31,8 @@ use denote.Triple.Call.{calls-at}
 use denote.Triple.Entry.{Args}
 use denote.Triple.Clauses.{Lasts, ensured, lasts}
 use denote.Triple.Spec.{tripleOf}
-use Rattle.shapes.specs.declared.geometry.shapes.circle.Circle.{Circle}
-use Rattle.shapes.proofs.geometry.shapes.circle.Circle as T
+use Rattle.shapes.specs.declared.circle.Circle.{Circle}
+use Rattle.shapes.proofs.circle.Circle as T
 use Rattle.intake.specs.Columns.{xsOf, ysOf, radiiOf}
 use Rattle.intake.proofs.NumberArrays.{F64s}
 use Rattle.intake.proofs.TakenCalls.{numberOf}

@@ -4,7 +4,7 @@ use mathlib.Core.Path.{_≡_}
 use mathlib.Core.List.{List, [], _∷_}
 use lib.ListN.{take}
 use lib.Ieee.{Float}
-use Rattle.shapes.specs.declared.geometry.shapes.circle.Circle.{Circle}
+use Rattle.shapes.specs.declared.circle.Circle.{Circle}
 use Rattle.scope.specs.Runs.{bit, any}
 use Rattle.scope.specs.Refusals.{Checks, causeHolds, tooMany, badCentre, badRadius}
 use Rattle.intake.specs.Columns.{circlesOf}

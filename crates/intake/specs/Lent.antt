@@ -3,7 +3,7 @@ use Prim.Native.Nat.{ℕ, min}
 use mathlib.Core.List.{List, _++_}
 use lib.ListN.{length, set, take, drop, replicate}
 use Rattle.shapes.specs.Records.{pointAt}
-use Rattle.shapes.specs.declared.geometry.shapes.circle.Circle.{Circle}
+use Rattle.shapes.specs.declared.circle.Circle.{Circle}
 use Rattle.scope.specs.Numbers.{nought}
 use Rattle.scope.specs.Runs.{filled}
 use Rattle.intake.specs.Limits.{maxCircles}

@@ -22,9 +22,9 @@ use crate::limits::room;
 use crate::limits::too_many;
 use crate::limits::too_many_regions;
 use crate::refusals::is_rising;
-use shapes::geometry::primitives::point::Point;
-use shapes::geometry::shapes::circle::Circle;
-use shapes::geometry::shapes::rectangle::Rectangle;
+use shapes::point::Point;
+use shapes::circle::Circle;
+use shapes::rectangle::Rectangle;
 
 // Document 01's order: 13 goes before 2. A later number is appended.
 const ORDER: [u8; 13] = [1, 13, 2, 3, 4, 5, 6, 7, 8, 9, 10, 11, 12];

@@ -6,8 +6,8 @@ ghost use Rattle.scope.specs.Links.{circle};
 ghost use Rattle.intake.specs.Lent.{blank, loaded, stored, unloaded, withCircle};
 use crate::limits::MAX_CIRCLES;
 use crate::limits::room;
-use shapes::geometry::primitives::point::Point;
-use shapes::geometry::shapes::circle::Circle;
+use shapes::point::Point;
+use shapes::circle::Circle;
 
 // The circles of a run, as many as there is room for, and the run's length.
 pub struct Loaded {

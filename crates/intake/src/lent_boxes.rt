@@ -6,8 +6,8 @@ ghost use Rattle.intake.specs.Limits.{maxCircles};
 ghost use Rattle.intake.specs.LentBoxes.{loaded, unloaded, withRectangle};
 use crate::limits::MAX_CIRCLES;
 use crate::limits::room;
-use shapes::geometry::primitives::point::Point;
-use shapes::geometry::shapes::rectangle::Rectangle;
+use shapes::point::Point;
+use shapes::rectangle::Rectangle;
 
 // The boxes of a run, as many as there is room for, and the run's length.
 pub struct Loaded {

@@ -4,9 +4,9 @@ ghost use Prim.Native.Nat.{min};
 ghost use Rattle.scope.specs.Limits.{coordinateOk, sideOk};
 ghost use Rattle.scope.specs.Refusals.{tooMany, tooManyRegions, badPoint, badCentre, badRadius, badFactor, badSide, badPadding};
 ghost use Rattle.intake.specs.Limits.{maxCircles};
-use shapes::geometry::primitives::point::Point;
-use shapes::geometry::shapes::circle::Circle;
-use shapes::geometry::shapes::rectangle::Rectangle;
+use shapes::point::Point;
+use shapes::circle::Circle;
+use shapes::rectangle::Rectangle;
 
 pub const MAX_CIRCLES: usize = 64;
 

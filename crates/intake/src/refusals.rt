@@ -8,7 +8,7 @@ use crate::limits::bad_centre;
 use crate::limits::bad_radius;
 use crate::limits::too_many;
 use crate::limits::too_many_regions;
-use shapes::geometry::shapes::circle::Circle;
+use shapes::circle::Circle;
 
 // Too many circles (1), lists of unequal length (13), too many regions (2), masks that do not rise (5).
 pub fn regions_refusal(n: usize, masks: &[u64], areas: &[f64]) -> u8

@@ -8,9 +8,9 @@ ghost use Rattle.intake.specs.Limits.{maxCircles};
 ghost use Rattle.intake.specs.Columns.{xsOf, ysOf, radiiOf, widthsOf, heightsOf, overwritten};
 use crate::limits::MAX_CIRCLES;
 use crate::limits::too_many;
-use shapes::geometry::primitives::point::Point;
-use shapes::geometry::shapes::circle::Circle;
-use shapes::geometry::shapes::rectangle::Rectangle;
+use shapes::point::Point;
+use shapes::circle::Circle;
+use shapes::rectangle::Rectangle;
 
 // The centres and the radii of a run.
 pub fn split(

@@ -11,8 +11,8 @@ use lib.Seq.{ext-getD, getD-set-same, getD-set-other}
 use lib.Ieee.{Float, nan, binary64}
 use borrow.Author.Tests.{lt-ltb, le-ltb}
 use Rattle.rounding.specs.Root.{root}
-use Rattle.shapes.specs.declared.geometry.shapes.circle.Circle.{Circle}
-use Rattle.shapes.specs.declared.geometry.shapes.rectangle.Rectangle.{Rectangle}
+use Rattle.shapes.specs.declared.circle.Circle.{Circle}
+use Rattle.shapes.specs.declared.rectangle.Rectangle.{Rectangle}
 use Rattle.shapes.specs.Records.{pointAt, rectangleOf}
 use Rattle.scope.specs.Numbers.{_+ᶠ_, _-ᶠ_, _*ᶠ_, nought}
 use Rattle.scope.specs.Runs.{tab, gather, always}

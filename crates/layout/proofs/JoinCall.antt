@@ -33,8 +33,8 @@ use denote.Triple.Entry.{Args}
 use denote.Triple.Clauses.{Lasts, ensured, lasts}
 use denote.Triple.Spec.{tripleOf}
 use denote.Triple.Walked.{says}
-use Rattle.shapes.specs.declared.geometry.shapes.circle.Circle.{Circle}
-use Rattle.shapes.proofs.geometry.shapes.circle.Circle as T
+use Rattle.shapes.specs.declared.circle.Circle.{Circle}
+use Rattle.shapes.proofs.circle.Circle as T
 use Rattle.intake.specs.Limits.{maxCircles}
 use Rattle.layout.specs.Recentred.{recentred, writtenOf}
 use Rattle.intake.proofs.Lending.{refTo, lent-to-read, read-back, run-to-write, run-written-back}

@@ -9,8 +9,8 @@ use lib.Ieee.{Float, nan}
 use lib.ListN.{length, getD, take, drop, List·getD-append}
 use lib.Seq.{length-take-le, getD-take, take-at}
 use borrow.Author.Tests.{eq-eqb}
-use Rattle.shapes.specs.declared.geometry.shapes.circle.Circle.{Circle}
-use Rattle.shapes.specs.declared.geometry.shapes.rectangle.Rectangle.{Rectangle}
+use Rattle.shapes.specs.declared.circle.Circle.{Circle}
+use Rattle.shapes.specs.declared.rectangle.Rectangle.{Rectangle}
 use Rattle.scope.specs.Numbers.{nought, golden}
 use Rattle.scope.specs.Refusals.{packRefusal}
 use Rattle.scope.specs.Packing.{rectangle, packed}

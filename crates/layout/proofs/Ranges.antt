@@ -6,8 +6,8 @@ use mathlib.Core.Bool.{Bool, true, false, cond}
 use mathlib.Core.List.{List}
 use lib.ListN.{length}
 use lib.Ieee.{Float}
-use Rattle.shapes.specs.declared.geometry.primitives.bounds.Bounds.{Bounds}
-use Rattle.shapes.specs.declared.geometry.shapes.circle.Circle.{Circle}
+use Rattle.shapes.specs.declared.bounds.Bounds.{Bounds}
+use Rattle.shapes.specs.declared.circle.Circle.{Circle}
 use Rattle.shapes.specs.Records.{boxOf}
 use Rattle.shapes.specs.Boxes.{circleBox, unionOf}
 use Rattle.scope.specs.Runs.{gather}

@@ -6,7 +6,7 @@ use mathlib.Core.List.{List, [], _++_, append-nil}
 use lib.Ieee.{Float, nan}
 use lib.ListN.{length, getD, set, take, drop}
 use lib.Seq.{drop-length, getD-take, length-take-le}
-use Rattle.shapes.specs.declared.geometry.shapes.circle.Circle.{Circle}
+use Rattle.shapes.specs.declared.circle.Circle.{Circle}
 use Rattle.scope.specs.Runs.{tab}
 use Rattle.scope.specs.Links.{circle, nowhere}
 use Rattle.promises.proofs.Runs.{length-tab, tab-equal}

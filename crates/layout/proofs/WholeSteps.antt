@@ -9,7 +9,7 @@ use lib.Dec.{T}
 use lib.Ieee.{Float, nan}
 use lib.ListN.{length, take}
 use lib.Seq.{take-at}
-use Rattle.shapes.specs.declared.geometry.shapes.circle.Circle.{Circle}
+use Rattle.shapes.specs.declared.circle.Circle.{Circle}
 use Rattle.shapes.proofs.Lift.{lift-nan}
 use Rattle.scope.specs.Numbers.{golden}
 use Rattle.scope.specs.Runs.{filled}

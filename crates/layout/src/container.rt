@@ -20,9 +20,9 @@ use intake::limits::MAX_CIRCLES;
 use intake::runs::split;
 use intake::runs::split_array;
 
-use shapes::geometry::primitives::point::Point;
-use shapes::geometry::shapes::circle::Circle;
-use shapes::geometry::shapes::rectangle::Rectangle;
+use shapes::point::Point;
+use shapes::circle::Circle;
+use shapes::rectangle::Rectangle;
 
 // A refusal's number or 0, and the container and the circles: as they were given where the call is refused.
 #[repr(C)]

@@ -43,8 +43,8 @@ use geometry::circle::absolute;
 use geometry::point::root_or_nan;
 use intake::masks::holds;
 use shapes::extremes::maximum;
-use shapes::geometry::primitives::point::Point;
-use shapes::geometry::shapes::circle::Circle;
+use shapes::point::Point;
+use shapes::circle::Circle;
 
 // Where a child is moved to, if it is.
 enum Moved {

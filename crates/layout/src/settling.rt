@@ -10,8 +10,8 @@ use crate::axis::range_of;
 use crate::axis::translate;
 use geometry::circle::absolute;
 use shapes::extremes::maximum;
-use shapes::geometry::primitives::point::Point;
-use shapes::geometry::shapes::rectangle::Rectangle;
+use shapes::point::Point;
+use shapes::rectangle::Rectangle;
 
 // The container as it stands then.
 pub(crate) fn settled(

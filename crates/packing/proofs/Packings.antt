@@ -11,7 +11,7 @@ use lib.Seq.{length-take-le, getD-take}
 use lib.Dec.{T}
 use lib.Ieee.{Float, nan, inf, fin, lt, eq, up, down}
 use Rattle.shapes.specs.Records.{pointAt, rectangleOf}
-use Rattle.shapes.specs.declared.geometry.shapes.rectangle.Rectangle.{Rectangle}
+use Rattle.shapes.specs.declared.rectangle.Rectangle.{Rectangle}
 use Rattle.scope.specs.Numbers.{_*ᶠ_, nought, golden}
 use Rattle.scope.specs.Runs.{tab, any}
 use Rattle.scope.specs.Limits.{sideOk, circleCap}

@@ -6,7 +6,7 @@ use mathlib.Core.List.{List, []}
 use lib.ListN.{length, take}
 use lib.Ieee.{Float}
 use Rattle.shapes.specs.Records.{pointAt, rectangleOf}
-use Rattle.shapes.specs.declared.geometry.shapes.rectangle.Rectangle.{Rectangle}
+use Rattle.shapes.specs.declared.rectangle.Rectangle.{Rectangle}
 use Rattle.scope.specs.Numbers.{nought}
 use Rattle.scope.specs.Runs.{tab}
 use Rattle.scope.specs.Refusals.{tooMany, packRefusal}

@@ -24,8 +24,8 @@ use intake::limits::MAX_CIRCLES;
 use intake::limits::room;
 use intake::runs::split_sides;
 use shapes::extremes::maximum;
-use shapes::geometry::primitives::point::Point;
-use shapes::geometry::shapes::rectangle::Rectangle;
+use shapes::point::Point;
+use shapes::rectangle::Rectangle;
 
 // A number of columns, or a refusal's number.
 pub enum ColumnCount {

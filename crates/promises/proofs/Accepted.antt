@@ -7,8 +7,8 @@ use mathlib.Core.List.{List}
 use lib.ListN.{length}
 use lib.Dec.{T, eqb}
 use lib.Ieee.{Float}
-use Rattle.shapes.specs.declared.geometry.primitives.point.Point.{Point}
-use Rattle.shapes.specs.declared.geometry.shapes.circle.Circle.{Circle}
+use Rattle.shapes.specs.declared.point.Point.{Point}
+use Rattle.shapes.specs.declared.circle.Circle.{Circle}
 use Rattle.scope.specs.Runs.{any}
 use Rattle.scope.specs.Limits.{circleCap, regionCap, coordinateOk, radiusOk, factorOk}
 use Rattle.scope.specs.Refusals.{tooMany, unequal, tooManyRegions, badPoint, badCentre, badRadius, rising, badFactor, layoutRefusal}

@@ -9,7 +9,7 @@ use lib.ListN.{length, getD}
 use Rattle.algebra.specs.Integer.{Z, nat, Within, _⊕_, _⊖_, _≈_, _≼_}
 use Rattle.algebra.proofs.Size.{size, size-square, size-le}
 use Rattle.rounding.specs.Scale.{pow2}
-use Rattle.shapes.specs.declared.geometry.shapes.circle.Circle.{Circle}
+use Rattle.shapes.specs.declared.circle.Circle.{Circle}
 use Rattle.scope.specs.Links.{Region, circle}
 use Rattle.scope.specs.Offset.{offset}
 use Rattle.scope.specs.Gauge.{gauged}

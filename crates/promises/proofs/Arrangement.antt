@@ -11,8 +11,8 @@ use lib.ListN.{length}
 use lib.Ieee.{Float}
 use Rattle.algebra.specs.Integer.{nat, _≼_}
 use Rattle.rounding.specs.Scale.{pow2}
-use Rattle.shapes.specs.declared.geometry.shapes.circle.Circle.{Circle}
-use Rattle.shapes.specs.declared.geometry.shapes.rectangle.Rectangle.{Rectangle}
+use Rattle.shapes.specs.declared.circle.Circle.{Circle}
+use Rattle.shapes.specs.declared.rectangle.Rectangle.{Rectangle}
 use Rattle.scope.specs.Links.{circle}
 use Rattle.scope.specs.Packing.{columns, rectangle, rectangleArea}
 use Rattle.scope.specs.Padding.{boxes, padding}

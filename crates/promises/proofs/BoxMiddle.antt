@@ -11,8 +11,8 @@ use Rattle.algebra.specs.Integer.{Z, nat, opp, Within, Near, _⊕_, _⊖_, _≼
 use Rattle.algebra.proofs.Size.{either}
 use Rattle.rounding.specs.Scale.{pow2}
 use Rattle.rounding.proofs.Negate.{neg-val}
-use Rattle.shapes.specs.declared.geometry.primitives.point.Point.{Point}
-use Rattle.shapes.specs.declared.geometry.shapes.circle.Circle.{Circle}
+use Rattle.shapes.specs.declared.point.Point.{Point}
+use Rattle.shapes.specs.declared.circle.Circle.{Circle}
 use Rattle.scope.specs.Links.{circle}
 use Rattle.scope.specs.Gauge.{middle}
 use Rattle.scope.specs.Promises.{units, lower, upper}

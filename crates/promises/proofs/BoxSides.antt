@@ -16,9 +16,9 @@ use Rattle.rounding.proofs.Negate.{neg-val, neg-fin}
 use Rattle.rounding.proofs.Rounded.{sign-kept}
 use Rattle.rounding.proofs.Add.{add-is, bottom}
 use Rattle.rounding.proofs.Double.{Close, add64, sub64}
-use Rattle.shapes.specs.declared.geometry.primitives.point.Point.{Point}
-use Rattle.shapes.specs.declared.geometry.primitives.bounds.Bounds.{Bounds}
-use Rattle.shapes.specs.declared.geometry.shapes.circle.Circle.{Circle}
+use Rattle.shapes.specs.declared.point.Point.{Point}
+use Rattle.shapes.specs.declared.bounds.Bounds.{Bounds}
+use Rattle.shapes.specs.declared.circle.Circle.{Circle}
 use Rattle.shapes.specs.Boxes.{circleBox, unionOf}
 use Rattle.scope.specs.Runs.{gather}
 use Rattle.scope.specs.Links.{circle}

@@ -8,7 +8,7 @@ use lib.Ieee.{Float, binary64}
 use Rattle.algebra.specs.Integer.{Z, nat, Within, Near, _⊕_, _⊖_, _⊗_}
 use Rattle.rounding.specs.Value.{Fin}
 use Rattle.rounding.specs.Scale.{pow2}
-use Rattle.shapes.specs.declared.geometry.shapes.circle.Circle.{Circle}
+use Rattle.shapes.specs.declared.circle.Circle.{Circle}
 use Rattle.shapes.specs.Lift.{lift}
 use Rattle.scope.specs.Numbers.{_+ᶠ_}
 use Rattle.scope.specs.Promises.{units, square}

@@ -8,8 +8,8 @@ use lib.ListN.{length}
 use lib.Ieee.{Float, binary64, add, neg}
 use Rattle.algebra.specs.Integer.{Z, Within, Near, _⊕_}
 use Rattle.rounding.specs.Scale.{pow2}
-use Rattle.shapes.specs.declared.geometry.primitives.point.Point.{Point}
-use Rattle.shapes.specs.declared.geometry.shapes.circle.Circle.{Circle}
+use Rattle.shapes.specs.declared.point.Point.{Point}
+use Rattle.shapes.specs.declared.circle.Circle.{Circle}
 use Rattle.scope.specs.Runs.{always}
 use Rattle.scope.specs.Links.{circle}
 use Rattle.scope.specs.Offset.{translated}

@@ -14,7 +14,7 @@ use Rattle.rounding.specs.Extremes.{minimum, maximum}
 use Rattle.rounding.proofs.Double.{add64, pow2-scale}
 use Rattle.rounding.proofs.Halve.{over-two}
 use Rattle.rounding.proofs.Extremes.{minimum-either, maximum-either}
-use Rattle.shapes.specs.declared.geometry.primitives.bounds.Bounds.{Bounds}
+use Rattle.shapes.specs.declared.bounds.Bounds.{Bounds}
 use Rattle.shapes.specs.Boxes.{unionOf}
 use Rattle.scope.specs.Numbers.{_+ᶠ_, _/ᶠ_, two}
 use Rattle.scope.specs.Runs.{gather}

@@ -11,9 +11,9 @@ use lib.Ieee.{Float, binary64}
 use Rattle.rounding.specs.Value.{Fin}
 use Rattle.rounding.specs.Scale.{pow2}
 use Rattle.rounding.proofs.Double.{sub64, pow2-scale, pow2-le}
-use Rattle.shapes.specs.declared.geometry.primitives.point.Point.{Point}
-use Rattle.shapes.specs.declared.geometry.primitives.bounds.Bounds.{Bounds}
-use Rattle.shapes.specs.declared.geometry.shapes.circle.Circle.{Circle}
+use Rattle.shapes.specs.declared.point.Point.{Point}
+use Rattle.shapes.specs.declared.bounds.Bounds.{Bounds}
+use Rattle.shapes.specs.declared.circle.Circle.{Circle}
 use Rattle.scope.specs.Numbers.{_-ᶠ_, _<ᶠ_}
 use Rattle.scope.specs.Runs.{least}
 use Rattle.scope.specs.Links.{circle, nowhere}

@@ -8,7 +8,7 @@ use mathlib.Core.List.{List}
 use lib.ListN.{getD, length}
 use lib.Dec.{T}
 use lib.Ieee.{Float}
-use Rattle.shapes.specs.declared.geometry.shapes.circle.Circle.{Circle}
+use Rattle.shapes.specs.declared.circle.Circle.{Circle}
 use Rattle.scope.specs.Runs.{filled}
 use Rattle.scope.specs.Links.{Region, regions, linkedByRegions, linkedByCircles, overlap, circle}
 use Rattle.scope.specs.Closure.{at}

@@ -15,7 +15,7 @@ use Rattle.rounding.proofs.Value.{fin-both, fin-finite, val-mag}
 use Rattle.rounding.proofs.Double.{pow2-scale}
 use Rattle.rounding.proofs.Add.{add-relative, add-sign}
 use Rattle.rounding.proofs.Order.{le-is}
-use Rattle.shapes.specs.declared.geometry.shapes.circle.Circle.{Circle}
+use Rattle.shapes.specs.declared.circle.Circle.{Circle}
 use Rattle.shapes.specs.Lift.{lift}
 use Rattle.scope.specs.Numbers.{_+ᶠ_}
 use Rattle.scope.specs.Distance.{distance, contains}

@@ -7,7 +7,7 @@ use lib.Dec.{T, lit≤}
 use lib.ListN.{length, getD}
 use lib.Ieee.{Float, binary64, fits}
 use Rattle.rounding.specs.Scale.{pow2}
-use Rattle.shapes.specs.declared.geometry.shapes.circle.Circle.{Circle}
+use Rattle.shapes.specs.declared.circle.Circle.{Circle}
 use Rattle.scope.specs.Numbers.{golden}
 use Rattle.scope.specs.Limits.{circleCap, radiusOk, factorOk}
 use Rattle.scope.specs.Runs.{filled}

@@ -20,7 +20,7 @@ use Rattle.rounding.proofs.Add.{add-relative, sub-relative, add-sign}
 use Rattle.rounding.proofs.Multiply.{mul-relative, square-sign}
 use Rattle.rounding.proofs.Root.{root-finite, root-rel}
 use Rattle.rounding.proofs.Finite.{finite-add, finite-sub, finite-square}
-use Rattle.shapes.specs.declared.geometry.primitives.point.Point.{Point}
+use Rattle.shapes.specs.declared.point.Point.{Point}
 use Rattle.scope.specs.Numbers.{_+ᶠ_, _-ᶠ_, _*ᶠ_}
 use Rattle.scope.specs.Distance.{distance}
 use Rattle.scope.specs.Promises.{units, square}

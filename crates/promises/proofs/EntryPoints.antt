@@ -7,9 +7,9 @@ use mathlib.Core.List.{List, [], _∷_}
 use lib.ListN.{length}
 use lib.Dec.{eqb}
 use lib.Ieee.{Float, isNan}
-use Rattle.shapes.specs.declared.geometry.primitives.point.Point.{Point}
-use Rattle.shapes.specs.declared.geometry.shapes.circle.Circle.{Circle}
-use Rattle.shapes.specs.declared.geometry.shapes.rectangle.Rectangle.{Rectangle}
+use Rattle.shapes.specs.declared.point.Point.{Point}
+use Rattle.shapes.specs.declared.circle.Circle.{Circle}
+use Rattle.shapes.specs.declared.rectangle.Rectangle.{Rectangle}
 use Rattle.scope.specs.Numbers.{_<ᶠ_, nought}
 use Rattle.scope.specs.Runs.{any}
 use Rattle.scope.specs.Limits.{circleCap}

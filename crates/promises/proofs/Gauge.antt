@@ -8,7 +8,7 @@ use lib.Dec.{T, leb}
 use lib.ListN.{length, getD}
 use lib.Ieee.{Float}
 use Rattle.rounding.specs.Scale.{pow2}
-use Rattle.shapes.specs.declared.geometry.shapes.circle.Circle.{Circle}
+use Rattle.shapes.specs.declared.circle.Circle.{Circle}
 use Rattle.scope.specs.Runs.{inTurn}
 use Rattle.scope.specs.Links.{circle}
 use Rattle.scope.specs.Gauge.{rotateCluster, inCluster, gauged}

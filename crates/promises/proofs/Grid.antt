@@ -10,8 +10,8 @@ use lib.ListN.{length}
 use lib.Ieee.{Float, binary64, add, sub}
 use Rattle.algebra.specs.Integer.{nat, Near, _⊕_, _⊖_, _≼_}
 use Rattle.rounding.specs.Scale.{pow2}
-use Rattle.shapes.specs.declared.geometry.primitives.point.Point.{Point}
-use Rattle.shapes.specs.declared.geometry.shapes.circle.Circle.{Circle}
+use Rattle.shapes.specs.declared.point.Point.{Point}
+use Rattle.shapes.specs.declared.circle.Circle.{Circle}
 use Rattle.scope.specs.Links.{circle}
 use Rattle.scope.specs.Gauge.{middle}
 use Rattle.scope.specs.Packing.{breadth, start, placed}

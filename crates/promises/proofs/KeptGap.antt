@@ -8,8 +8,8 @@ use lib.Ieee.{Float}
 use Rattle.algebra.specs.Integer.{Z, nat, Near, _⊕_, _⊖_, _≼_}
 use Rattle.algebra.proofs.Size.{either}
 use Rattle.rounding.specs.Scale.{pow2}
-use Rattle.shapes.specs.declared.geometry.primitives.point.Point.{Point}
-use Rattle.shapes.specs.declared.geometry.shapes.circle.Circle.{Circle}
+use Rattle.shapes.specs.declared.point.Point.{Point}
+use Rattle.shapes.specs.declared.circle.Circle.{Circle}
 use Rattle.scope.specs.Promises.{units, xAxis, yAxis, lower, upper, larger, gapOn, Apart}
 use Rattle.promises.proofs.Cases.{tested, is-true, is-false}
 use Rattle.promises.proofs.Bounded.{joined}

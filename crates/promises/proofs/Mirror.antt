@@ -11,7 +11,7 @@ use Rattle.rounding.specs.Scale.{pow2}
 use Rattle.rounding.proofs.Double.{pow2-scale, pow2-le}
 use Rattle.rounding.proofs.Rounded.{signed-within}
 use Rattle.rounding.proofs.Halve.{twice}
-use Rattle.shapes.specs.declared.geometry.shapes.circle.Circle.{Circle}
+use Rattle.shapes.specs.declared.circle.Circle.{Circle}
 use Rattle.shapes.specs.Lift.{lift}
 use Rattle.scope.specs.Numbers.{_-ᶠ_, _*ᶠ_, two}
 use Rattle.scope.specs.Gauge.{mirrorX, mirrorY}

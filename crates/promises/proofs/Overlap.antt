@@ -3,8 +3,8 @@ use mathlib.Core.Path.{_≡_, ap, ap₂, _∙_}
 use mathlib.Core.Bool.{Bool, _&&_, _||_, or-comm}
 use lib.Ieee.{Float, binary64, add, sub, lt}
 use Rattle.rounding.specs.Root.{root}
-use Rattle.shapes.specs.declared.geometry.primitives.point.Point.{Point}
-use Rattle.shapes.specs.declared.geometry.shapes.circle.Circle.{Circle}
+use Rattle.shapes.specs.declared.point.Point.{Point}
+use Rattle.shapes.specs.declared.circle.Circle.{Circle}
 use Rattle.scope.specs.Numbers.{abs}
 use Rattle.scope.specs.Distance.{distance, contains, intersects}
 use Rattle.scope.specs.Links.{overlap}

@@ -9,9 +9,9 @@ use lib.Ieee.{Float, binary64, add}
 use Rattle.algebra.specs.Integer.{nat, _⊕_, _⊖_, _≼_}
 use Rattle.rounding.specs.Value.{Fin}
 use Rattle.rounding.specs.Scale.{pow2}
-use Rattle.shapes.specs.declared.geometry.primitives.point.Point.{Point}
-use Rattle.shapes.specs.declared.geometry.shapes.circle.Circle.{Circle}
-use Rattle.shapes.specs.declared.geometry.shapes.rectangle.Rectangle.{Rectangle}
+use Rattle.shapes.specs.declared.point.Point.{Point}
+use Rattle.shapes.specs.declared.circle.Circle.{Circle}
+use Rattle.shapes.specs.declared.rectangle.Rectangle.{Rectangle}
 use Rattle.shapes.specs.Lift.{lift}
 use Rattle.scope.specs.Links.{circle}
 use Rattle.scope.specs.Offset.{translated}

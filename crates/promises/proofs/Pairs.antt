@@ -4,7 +4,7 @@ use native.Mathlib.Omega.{arith}
 use lib.Dec.{lit≤}
 use Rattle.algebra.specs.Integer.{Z, nat, Within, Near, _⊕_, _⊖_, _⊗_, _≼_}
 use Rattle.rounding.specs.Scale.{pow2}
-use Rattle.shapes.specs.declared.geometry.shapes.circle.Circle.{Circle}
+use Rattle.shapes.specs.declared.circle.Circle.{Circle}
 use Rattle.scope.specs.Promises.{units, square, squaredDistance, Exceeds≤, Alike, ReachesWithin}
 use Rattle.promises.proofs.Isometry.{flip, turn-keeps-distance, turn-grows-little}
 use Rattle.promises.proofs.Reach.{grown-le, reach-grows-little, part-le}

@@ -15,7 +15,7 @@ use Rattle.algebra.specs.Integer.{_≺_, _≈_}
 use Rattle.algebra.proofs.Size.{either}
 use Rattle.rounding.specs.Value.{Fin}
 use Rattle.rounding.proofs.Order.{lt-is, eq-is}
-use Rattle.shapes.specs.declared.geometry.shapes.rectangle.Rectangle.{Rectangle}
+use Rattle.shapes.specs.declared.rectangle.Rectangle.{Rectangle}
 use Rattle.scope.specs.Numbers.{nought}
 use Rattle.scope.specs.Runs.{tab, many}
 use Rattle.scope.specs.Packing.{before, place, places, rectangle, rectangleArea, rows}

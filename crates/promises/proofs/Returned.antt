@@ -11,9 +11,9 @@ use lib.Ieee.{Float, binary64, add, neg}
 use Rattle.algebra.specs.Integer.{Z, nat, Within, _⊕_, _⊖_, _≼_}
 use Rattle.rounding.specs.Value.{Fin}
 use Rattle.rounding.specs.Scale.{pow2}
-use Rattle.shapes.specs.declared.geometry.primitives.point.Point.{Point}
-use Rattle.shapes.specs.declared.geometry.shapes.circle.Circle.{Circle}
-use Rattle.shapes.specs.declared.geometry.shapes.rectangle.Rectangle.{Rectangle}
+use Rattle.shapes.specs.declared.point.Point.{Point}
+use Rattle.shapes.specs.declared.circle.Circle.{Circle}
+use Rattle.shapes.specs.declared.rectangle.Rectangle.{Rectangle}
 use Rattle.scope.specs.Runs.{always}
 use Rattle.scope.specs.Links.{circle}
 use Rattle.scope.specs.Offset.{translated}

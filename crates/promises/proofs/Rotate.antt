@@ -12,8 +12,8 @@ use Rattle.rounding.specs.Value.{Fin}
 use Rattle.rounding.specs.Scale.{pow2}
 use Rattle.rounding.proofs.Double.{add64, sub64, mul64, pow2-scale, pow2-mul}
 use Rattle.rounding.proofs.Negate.{neg-val, neg-fin}
-use Rattle.shapes.specs.declared.geometry.primitives.point.Point.{Point}
-use Rattle.shapes.specs.declared.geometry.shapes.circle.Circle.{Circle}
+use Rattle.shapes.specs.declared.point.Point.{Point}
+use Rattle.shapes.specs.declared.circle.Circle.{Circle}
 use Rattle.scope.specs.Numbers.{_+ᶠ_, _-ᶠ_, _*ᶠ_}
 use Rattle.scope.specs.Gauge.{Turn, rotated}
 use Rattle.scope.specs.Promises.{units}

@@ -7,7 +7,7 @@ use Rattle.algebra.specs.Integer.{Within, Near, _⊕_}
 use Rattle.rounding.specs.Value.{Fin}
 use Rattle.rounding.specs.Scale.{pow2}
 use Rattle.rounding.proofs.Double.{add64}
-use Rattle.shapes.specs.declared.geometry.shapes.circle.Circle.{Circle}
+use Rattle.shapes.specs.declared.circle.Circle.{Circle}
 use Rattle.scope.specs.Promises.{units}
 use Rattle.promises.proofs.Bounded.{near-of}
 

@@ -9,7 +9,7 @@ use lib.ListN.{length}
 use lib.Ieee.{Float, binary64, fits}
 use Rattle.algebra.specs.Integer.{Z, nat, Within, _⊖_, _≼_, _≺_}
 use Rattle.rounding.specs.Scale.{pow2}
-use Rattle.shapes.specs.declared.geometry.shapes.circle.Circle.{Circle}
+use Rattle.shapes.specs.declared.circle.Circle.{Circle}
 use Rattle.scope.specs.Numbers.{golden}
 use Rattle.scope.specs.Limits.{circleCap, radiusOk, factorOk}
 use Rattle.scope.specs.Links.{circle}

@@ -18,7 +18,7 @@ use Rattle.rounding.proofs.Root.{root-near}
 use Rattle.rounding.proofs.Add.{add-sign}
 use Rattle.rounding.proofs.Multiply.{mul-is, mul-sign}
 use Rattle.rounding.proofs.Double.{add64, mul64, pow2-scale, pow2-mul, one}
-use Rattle.shapes.specs.declared.geometry.shapes.rectangle.Rectangle.{Rectangle}
+use Rattle.shapes.specs.declared.rectangle.Rectangle.{Rectangle}
 use Rattle.scope.specs.Numbers.{nought}
 use Rattle.scope.specs.Runs.{gather, always}
 use Rattle.scope.specs.Packing.{rectangle, rectangleArea}

@@ -8,7 +8,7 @@ use lib.ListN.{length}
 use lib.Ieee.{Float, binary64, fits}
 use Rattle.algebra.specs.Integer.{nat, _⊖_, _≼_}
 use Rattle.rounding.specs.Scale.{pow2}
-use Rattle.shapes.specs.declared.geometry.shapes.circle.Circle.{Circle}
+use Rattle.shapes.specs.declared.circle.Circle.{Circle}
 use Rattle.scope.specs.Refusals.{layoutRefusal}
 use Rattle.scope.specs.Links.{regions, circle}
 use Rattle.scope.specs.Layout.{layout}

@@ -1,10 +1,10 @@
 // Bounds, the lift, and the boxes of circle and rectangle, none of which refuses.
 use crate::read;
-use shapes::geometry::primitives::bounds::Bounds;
-use shapes::geometry::primitives::bounds::Overlap;
-use shapes::geometry::primitives::point::Point;
-use shapes::geometry::shapes::circle::Circle;
-use shapes::geometry::shapes::rectangle::Rectangle;
+use shapes::bounds::Bounds;
+use shapes::bounds::Overlap;
+use shapes::point::Point;
+use shapes::circle::Circle;
+use shapes::rectangle::Rectangle;
 
 // Two boxes and a radius; the union, whether and what they share, width, height and area, the lifted radius, the box of the circle and that of the rectangle.
 pub fn boxes_agree(body: &[u8]) -> bool {

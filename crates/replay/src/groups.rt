@@ -4,7 +4,7 @@ use crate::read;
 use clustering;
 use clustering::Clusters;
 use intake::lent::blank;
-use shapes::geometry::shapes::circle::Circle;
+use shapes::circle::Circle;
 
 // How many circles, their numbers, the answer.
 pub fn circles_agree(body: &[u8]) -> bool {

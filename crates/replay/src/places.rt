@@ -6,9 +6,9 @@ use packing::ColumnCount;
 use packing::Packed;
 use layout::container;
 use layout::container::InContainer;
-use shapes::geometry::primitives::point::Point;
-use shapes::geometry::shapes::circle::Circle;
-use shapes::geometry::shapes::rectangle::Rectangle;
+use shapes::point::Point;
+use shapes::circle::Circle;
+use shapes::rectangle::Rectangle;
 ghost use Prim.Native.Nat.{_≤_};
 
 // How many boxes, the refusal, the columns.

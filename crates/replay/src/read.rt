@@ -1,9 +1,9 @@
 // Numbers of a body. What lies past its end counts as 0; a body of a wrong length is refused before.
 ghost use Prim.Native.Nat.{_<_, _^_};
-use shapes::geometry::primitives::bounds::Bounds;
-use shapes::geometry::primitives::point::Point;
-use shapes::geometry::shapes::circle::Circle;
-use shapes::geometry::shapes::rectangle::Rectangle;
+use shapes::bounds::Bounds;
+use shapes::point::Point;
+use shapes::circle::Circle;
+use shapes::rectangle::Rectangle;
 
 pub fn byte(body: &[u8], at: usize) -> u8 {
     if at < body.len() { body[at] } else { 0 }

@@ -2,9 +2,9 @@
 use Prim.Native.Nat.{ℕ}
 use mathlib.Core.Bool.{Bool, true, false}
 use lib.Ieee.{Float}
-use Rattle.shapes.specs.declared.geometry.primitives.bounds.Overlap.{Overlap}
-use Rattle.shapes.specs.declared.geometry.primitives.bounds.Overlap.the-variants.{Box, Empty}
-use Rattle.shapes.specs.declared.geometry.shapes.circle.Circle.{Circle}
+use Rattle.shapes.specs.declared.bounds.Overlap.{Overlap}
+use Rattle.shapes.specs.declared.bounds.Overlap.the-variants.{Box, Empty}
+use Rattle.shapes.specs.declared.circle.Circle.{Circle}
 use Rattle.shapes.specs.Records.{pointAt, boxOf}
 use Rattle.scope.specs.Numbers.{nought}
 use Rattle.scope.specs.Refusals.{Answer, refused, given}

@@ -1,6 +1,6 @@
 // Answers of the calls, as C takes them: a refusal's number or 0, and what is given, which is 0 after a refusal.
-use shapes::geometry::primitives::bounds::Bounds;
-use shapes::geometry::shapes::circle::Circle;
+use shapes::bounds::Bounds;
+use shapes::circle::Circle;
 
 #[repr(C)]
 pub struct Length {

@@ -13,11 +13,11 @@ ghost use Rattle.shapes.specs.Boxes.{
 ghost use Rattle.shapes.specs.Lift.{circleAt};
 ghost use Rattle.rundhefja.specs.Answers.{sharedOf};
 use crate::answers::Shared;
-use shapes::geometry::primitives::bounds::Bounds;
-use shapes::geometry::primitives::bounds::Corners;
-use shapes::geometry::primitives::bounds::Overlap;
-use shapes::geometry::shapes::circle::Circle;
-use shapes::geometry::shapes::rectangle::Rectangle;
+use shapes::bounds::Bounds;
+use shapes::bounds::Corners;
+use shapes::bounds::Overlap;
+use shapes::circle::Circle;
+use shapes::rectangle::Rectangle;
 
 #[no_mangle]
 pub extern "C" fn rundhefja_bounds_width(b: Bounds) -> f64

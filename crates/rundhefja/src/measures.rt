@@ -18,8 +18,8 @@ use geometry::circle::Decided;
 use geometry::point::Measured;
 use packing::ColumnCount;
 use root::answers::Root;
-use shapes::geometry::primitives::point::Point;
-use shapes::geometry::shapes::circle::Circle;
+use shapes::point::Point;
+use shapes::circle::Circle;
 
 #[no_mangle]
 pub extern "C" fn rundhefja_root(x: f64) -> Length

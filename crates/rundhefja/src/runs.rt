@@ -19,8 +19,8 @@ use layout::container::Placed;
 use layout::normalize::Result;
 use layout::normalize::normalize_layout_with_clusters;
 use layout::container::normalize_layout_with_container;
-use shapes::geometry::shapes::circle::Circle;
-use shapes::geometry::shapes::rectangle::Rectangle;
+use shapes::circle::Circle;
+use shapes::rectangle::Rectangle;
 
 #[no_mangle]
 pub extern "C" fn rundhefja_clusters(circles: &[Circle]) -> Clusters

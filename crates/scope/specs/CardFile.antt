@@ -5,7 +5,7 @@ use mathlib.Core.List.{List, [], _∷_, _++_}
 use lib.Dec.{eqb, ltb}
 use lib.ListN.{getD, length, take, drop}
 use lib.Ieee.{Float, binary64, ofBits}
-use Rattle.shapes.specs.declared.geometry.shapes.circle.Circle.{Circle}
+use Rattle.shapes.specs.declared.circle.Circle.{Circle}
 use Rattle.scope.specs.Refusals.{Answer, refused, given, answer, frontToBack, tooMany, tooManyRegions, layoutRefusal}
 use Rattle.shapes.specs.Records.{pointAt}
 

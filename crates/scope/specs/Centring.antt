@@ -2,7 +2,7 @@
 use mathlib.Core.List.{List}
 use lib.ListN.{length}
 use lib.Ieee.{Float, neg}
-use Rattle.shapes.specs.declared.geometry.shapes.circle.Circle.{Circle}
+use Rattle.shapes.specs.declared.circle.Circle.{Circle}
 use Rattle.scope.specs.Runs.{tab, always}
 use Rattle.scope.specs.Links.{circle}
 use Rattle.scope.specs.Offset.{translated}

@@ -6,7 +6,7 @@ use mathlib.Core.List.{List, [], _∷_, _++_}
 use lib.IntN.{negsuc}
 use lib.ListN.{replicate, take}
 use lib.Ieee.{Float, nan, inf, fin, binary64, neg, ofBits, toBits}
-use Rattle.shapes.specs.declared.geometry.shapes.rectangle.Rectangle.{Rectangle}
+use Rattle.shapes.specs.declared.rectangle.Rectangle.{Rectangle}
 use Rattle.scope.specs.Numbers.{nought, one, half, whole, e-10}
 use Rattle.scope.specs.Runs.{tab, filled}
 use Rattle.scope.specs.Limits.{circleCap, coordinateOk, radiusOk, factorOk}

@@ -6,9 +6,9 @@ use lib.Dec.{eqb}
 use lib.ListN.{length}
 use lib.Ieee.{neg}
 use Rattle.rounding.specs.Extremes.{maximum}
-use Rattle.shapes.specs.declared.geometry.primitives.bounds.Bounds.{Bounds}
-use Rattle.shapes.specs.declared.geometry.shapes.circle.Circle.{Circle}
-use Rattle.shapes.specs.declared.geometry.shapes.rectangle.Rectangle.{Rectangle}
+use Rattle.shapes.specs.declared.bounds.Bounds.{Bounds}
+use Rattle.shapes.specs.declared.circle.Circle.{Circle}
+use Rattle.shapes.specs.declared.rectangle.Rectangle.{Rectangle}
 use Rattle.scope.specs.Numbers.{_+ᶠ_, _-ᶠ_, _*ᶠ_, _/ᶠ_, _<ᶠ_, nought, one, two, e-9, e-12, abs}
 use Rattle.scope.specs.Runs.{always}
 use Rattle.scope.specs.Refusals.{containerRefusal}

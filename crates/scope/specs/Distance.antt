@@ -3,8 +3,8 @@ use mathlib.Core.Bool.{Bool, _&&_, _||_, cond}
 use mathlib.Core.List.{[], _∷_}
 use lib.Ieee.{Float, binary64, isNan}
 use Rattle.rounding.specs.Root.{root}
-use Rattle.shapes.specs.declared.geometry.primitives.point.Point.{Point}
-use Rattle.shapes.specs.declared.geometry.shapes.circle.Circle.{Circle}
+use Rattle.shapes.specs.declared.point.Point.{Point}
+use Rattle.shapes.specs.declared.circle.Circle.{Circle}
 use Rattle.scope.specs.Numbers.{_+ᶠ_, _-ᶠ_, _*ᶠ_, _<ᶠ_, _≤ᶠ_, nought, abs}
 use Rattle.scope.specs.Refusals.{Answer, answer, refusal, pointsRefusal, pairRefusal, circlePointRefusal}
 

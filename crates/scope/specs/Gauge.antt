@@ -7,9 +7,9 @@ use lib.ListN.{getD, length}
 use lib.Ieee.{Float, inf, binary64, neg, eq}
 use Rattle.rounding.specs.Root.{root}
 use Rattle.rounding.specs.Extremes.{maximum}
-use Rattle.shapes.specs.declared.geometry.primitives.point.Point.{Point}
-use Rattle.shapes.specs.declared.geometry.primitives.bounds.Bounds.{Bounds}
-use Rattle.shapes.specs.declared.geometry.shapes.circle.Circle.{Circle}
+use Rattle.shapes.specs.declared.point.Point.{Point}
+use Rattle.shapes.specs.declared.bounds.Bounds.{Bounds}
+use Rattle.shapes.specs.declared.circle.Circle.{Circle}
 use Rattle.scope.specs.Numbers.{_+ᶠ_, _-ᶠ_, _*ᶠ_, _/ᶠ_, _<ᶠ_, _≤ᶠ_, nought, two, e-10, abs}
 use Rattle.scope.specs.Runs.{tab, gather, inTurn, least}
 use Rattle.shapes.specs.Records.{boxOf}

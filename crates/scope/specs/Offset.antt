@@ -9,8 +9,8 @@ use lib.ListN.{getD, length, set}
 use lib.Ieee.{Float, binary64}
 use Rattle.rounding.specs.Root.{root}
 use Rattle.rounding.specs.Extremes.{maximum}
-use Rattle.shapes.specs.declared.geometry.primitives.point.Point.{Point}
-use Rattle.shapes.specs.declared.geometry.shapes.circle.Circle.{Circle}
+use Rattle.shapes.specs.declared.point.Point.{Point}
+use Rattle.shapes.specs.declared.circle.Circle.{Circle}
 use Rattle.scope.specs.Numbers.{_+ᶠ_, _-ᶠ_, _*ᶠ_, _/ᶠ_, _<ᶠ_, _≤ᶠ_, nought, one, two, half, e-6, e-9}
 use Rattle.scope.specs.Runs.{tab, gather, inTurn, many, least, someBelow}
 use Rattle.shapes.specs.Records.{pointAt}

@@ -7,8 +7,8 @@ use lib.ListN.{getD, length}
 use lib.Ieee.{Float, binary64, eq}
 use Rattle.rounding.specs.Root.{root}
 use Rattle.rounding.specs.Extremes.{maximum}
-use Rattle.shapes.specs.declared.geometry.primitives.point.Point.{Point}
-use Rattle.shapes.specs.declared.geometry.shapes.rectangle.Rectangle.{Rectangle}
+use Rattle.shapes.specs.declared.point.Point.{Point}
+use Rattle.shapes.specs.declared.rectangle.Rectangle.{Rectangle}
 use Rattle.scope.specs.Numbers.{_+ᶠ_, _-ᶠ_, _*ᶠ_, _/ᶠ_, _<ᶠ_, nought, two, golden, whole, raised}
 use Rattle.scope.specs.Runs.{tab, gather, many, filled}
 use Rattle.scope.specs.Limits.{circleCap}

@@ -6,9 +6,9 @@ use lib.Dec.{ltb}
 use lib.ListN.{getD, length}
 use lib.Ieee.{Float, binary64}
 use Rattle.rounding.specs.Root.{root}
-use Rattle.shapes.specs.declared.geometry.primitives.bounds.Bounds.{Bounds}
-use Rattle.shapes.specs.declared.geometry.shapes.circle.Circle.{Circle}
-use Rattle.shapes.specs.declared.geometry.shapes.rectangle.Rectangle.{Rectangle}
+use Rattle.shapes.specs.declared.bounds.Bounds.{Bounds}
+use Rattle.shapes.specs.declared.circle.Circle.{Circle}
+use Rattle.shapes.specs.declared.rectangle.Rectangle.{Rectangle}
 use Rattle.scope.specs.Numbers.{_+ᶠ_, _-ᶠ_, _*ᶠ_, nought}
 use Rattle.scope.specs.Runs.{tab, gather, always}
 use Rattle.shapes.specs.Records.{pointAt, rectangleOf}

@@ -11,8 +11,8 @@ use lib.ListN.{getD, length}
 use lib.Ieee.{Float, binary64}
 use Rattle.algebra.specs.Integer.{Z, nat, _⊕_, _⊖_, _⊗_, _≼_}
 use Rattle.rounding.specs.Value.{val, Fin}
-use Rattle.shapes.specs.declared.geometry.primitives.point.Point.{Point}
-use Rattle.shapes.specs.declared.geometry.shapes.circle.Circle.{Circle}
+use Rattle.shapes.specs.declared.point.Point.{Point}
+use Rattle.shapes.specs.declared.circle.Circle.{Circle}
 use Rattle.scope.specs.Runs.{bit}
 use Rattle.scope.specs.Links.{Region, holds, counts, circle}
 use Rattle.scope.specs.Tolerance.{tolerance}

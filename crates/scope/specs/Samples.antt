@@ -5,7 +5,7 @@ use mathlib.Core.Bool.{true, false}
 use mathlib.Core.List.{List, [], _∷_, _++_, map}
 use lib.IntN.{negsuc}
 use lib.Ieee.{Float, inf, fin, binary64, toBits}
-use Rattle.shapes.specs.declared.geometry.shapes.circle.Circle.{Circle}
+use Rattle.shapes.specs.declared.circle.Circle.{Circle}
 use Rattle.rounding.specs.Root.{root}
 use Rattle.scope.specs.Numbers.{nought, one, whole, e-10}
 use Rattle.scope.specs.Runs.{filled}

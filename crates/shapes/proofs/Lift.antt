@@ -3,7 +3,7 @@ use mathlib.Core.Path.{_≡_, refl}
 use mathlib.Core.Bool.{Bool, true, false}
 use lib.Ieee.{Float, nan, lt}
 use Rattle.rounding.specs.Extremes.{maximum}
-use Rattle.shapes.specs.declared.geometry.shapes.circle.Circle.{Circle}
+use Rattle.shapes.specs.declared.circle.Circle.{Circle}
 use Rattle.shapes.specs.Records.{pointAt}
 use Rattle.shapes.specs.Limits.{smallestNormal, radiusInRange}
 use Rattle.shapes.specs.Lift.{lift, circleAt, movedTo}

@@ -3,13 +3,13 @@ use mathlib.Core.Bool.{Bool, false, _&&_, cond}
 use lib.IntN.{pos}
 use lib.Ieee.{Float, fin, binary64, add, sub, mul, div, lt}
 use Rattle.rounding.specs.Extremes.{minimum, maximum}
-use Rattle.shapes.specs.declared.geometry.primitives.bounds.Bounds.{Bounds}
-use Rattle.shapes.specs.declared.geometry.primitives.bounds.Corners.{Corners}
-use Rattle.shapes.specs.declared.geometry.primitives.bounds.Overlap.{Overlap}
-use Rattle.shapes.specs.declared.geometry.primitives.bounds.Overlap.the-variants.{Box, Empty}
-use Rattle.shapes.specs.declared.geometry.primitives.point.Point.{Point}
-use Rattle.shapes.specs.declared.geometry.shapes.circle.Circle.{Circle}
-use Rattle.shapes.specs.declared.geometry.shapes.rectangle.Rectangle.{Rectangle}
+use Rattle.shapes.specs.declared.bounds.Bounds.{Bounds}
+use Rattle.shapes.specs.declared.bounds.Corners.{Corners}
+use Rattle.shapes.specs.declared.bounds.Overlap.{Overlap}
+use Rattle.shapes.specs.declared.bounds.Overlap.the-variants.{Box, Empty}
+use Rattle.shapes.specs.declared.point.Point.{Point}
+use Rattle.shapes.specs.declared.circle.Circle.{Circle}
+use Rattle.shapes.specs.declared.rectangle.Rectangle.{Rectangle}
 use Rattle.shapes.specs.Records.{pointAt, boxOf}
 
 abbrev pub widthOf : Bounds → Float

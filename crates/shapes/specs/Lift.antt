@@ -1,7 +1,7 @@
 -- Document 01, "Records": the lift raises a radius below the smallest normal number to it. "Container and bounds.rs": NaN stays NaN.
 use lib.Ieee.{Float}
 use Rattle.rounding.specs.Extremes.{maximum}
-use Rattle.shapes.specs.declared.geometry.shapes.circle.Circle.{Circle}
+use Rattle.shapes.specs.declared.circle.Circle.{Circle}
 use Rattle.shapes.specs.Limits.{smallestNormal}
 use Rattle.shapes.specs.Records.{pointAt}
 

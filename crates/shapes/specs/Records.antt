@@ -1,8 +1,8 @@
 -- Document 01, "Records": a point, a box and a rectangle are records of floats, here by their fields.
 use lib.Ieee.{Float}
-use Rattle.shapes.specs.declared.geometry.primitives.point.Point.{Point}
-use Rattle.shapes.specs.declared.geometry.primitives.bounds.Bounds.{Bounds}
-use Rattle.shapes.specs.declared.geometry.shapes.rectangle.Rectangle.{Rectangle}
+use Rattle.shapes.specs.declared.point.Point.{Point}
+use Rattle.shapes.specs.declared.bounds.Bounds.{Bounds}
+use Rattle.shapes.specs.declared.rectangle.Rectangle.{Rectangle}
 
 abbrev pub pointAt : Float → Float → Point
 pointAt x y = record { x = x; y = y }

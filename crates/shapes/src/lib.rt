@@ -1,3 +1,6 @@
 // The records of a layout, and the functions on them that accept every f64 and refuse none.
+pub mod bounds;
+pub mod circle;
 pub mod extremes;
-pub mod geometry;
+pub mod point;
+pub mod rectangle;

@@ -40,8 +40,8 @@ use denote.Triple.Spec.{Meets, tripleOf}
 use denote.Triple.Table.{entered, cited}
 use denote.Triple.Walked.{says, Stays, stay-none-slice, walkOf, Walks, ends-at, walked, goes-none-slice, walk-meets}
 use denote.Exit.{yes}
-use Rattle.shapes.specs.declared.geometry.shapes.circle.Circle.{Circle}
-use Rattle.shapes.proofs.geometry.shapes.circle.Circle as T
+use Rattle.shapes.specs.declared.circle.Circle.{Circle}
+use Rattle.shapes.proofs.circle.Circle as T
 use Rattle.intake.specs.Limits.{maxCircles}
 use Rattle.intake.specs.Columns.{xsOf, ysOf, radiiOf}
 use Rattle.intake.proofs.Lending.{refTo, lent-to-read, read-back}

@@ -4,7 +4,7 @@ use native.Mathlib.Omega.{arith}
 use mathlib.Core.Path.{_≡_, refl, ap}
 use lib.ListN.{length, length-set}
 use lib.Ieee.{nan}
-use Rattle.shapes.specs.declared.geometry.shapes.rectangle.Rectangle.{Rectangle}
+use Rattle.shapes.specs.declared.rectangle.Rectangle.{Rectangle}
 use Rattle.scope.specs.Packing.{noRectangle, widthAt, heightAt}
 use Rattle.intake.specs.Limits.{maxCircles}
 use Rattle.packing.specs.Lists.{At}

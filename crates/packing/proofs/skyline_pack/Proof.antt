@@ -41,8 +41,8 @@ use denote.Triple.Spec.{Meets, tripleOf}
 use denote.Triple.Table.{entered, cited}
 use denote.Triple.Walked.{says, Stays, stay-none-slice, stay-none, walkOf, Walks, ends-at, walked, goes-none-slice, goes-none, walk-meets}
 use denote.Exit.{yes}
-use Rattle.shapes.specs.declared.geometry.shapes.rectangle.Rectangle.{Rectangle}
-use Rattle.shapes.proofs.geometry.shapes.rectangle.Rectangle as T
+use Rattle.shapes.specs.declared.rectangle.Rectangle.{Rectangle}
+use Rattle.shapes.proofs.rectangle.Rectangle as T
 use Rattle.intake.specs.Limits.{maxCircles}
 use Rattle.intake.specs.Columns.{widthsOf, heightsOf}
 use Rattle.intake.proofs.Lending.{refTo, lent-to-read, read-back}

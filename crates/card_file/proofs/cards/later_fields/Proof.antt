@@ -9,7 +9,7 @@ use mathlib.Core.Path.{subst}
 use mathlib.Core.Logic.{inl, inr}
 use lib.ListN.{drop, replicate}
 use lib.Ieee.{ofBits}
-use Rattle.shapes.specs.declared.geometry.shapes.circle.Circle.{Circle}
+use Rattle.shapes.specs.declared.circle.Circle.{Circle}
 use Rattle.scope.specs.Numbers.{nought}
 use Rattle.scope.specs.Refusals.{answer}
 use Rattle.intake.specs.Limits.{maxCircles, maxRegions}

@@ -52,9 +52,9 @@ use denote.Exit.{yes}
 use base.Logic.{emp, via, fst∗}
 use borrow.Author.Tests.{lt-ltb, le-ltb}
 use Rattle.shapes.specs.Records.{pointAt}
-use Rattle.shapes.specs.declared.geometry.shapes.circle.Circle.{Circle}
-use Rattle.shapes.proofs.geometry.shapes.circle.Circle as T
-use Rattle.shapes.proofs.geometry.shapes.circle.Circle.Laws as T′
+use Rattle.shapes.specs.declared.circle.Circle.{Circle}
+use Rattle.shapes.proofs.circle.Circle as T
+use Rattle.shapes.proofs.circle.Circle.Laws as T′
 use Rattle.intake.specs.Limits.{maxCircles}
 use Rattle.intake.specs.Lent.{blank, unloaded, withCircle, loaded}
 use Rattle.intake.specs.declared.lent.Loaded.{Loaded}

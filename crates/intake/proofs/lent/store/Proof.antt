@@ -50,9 +50,9 @@ use denote.Triple.Table.{entered, cited}
 use denote.Triple.Walked.{says, Stays, stay-slice, stay-none, walkOf, Walks, ends-at, walked, goes-slice, goes-none, walk-meets}
 use denote.Exit.{yes}
 use borrow.Author.Tests.{lt-ltb, le-ltb}
-use Rattle.shapes.specs.declared.geometry.shapes.circle.Circle.{Circle}
-use Rattle.shapes.proofs.geometry.shapes.circle.Circle as T
-use Rattle.shapes.proofs.geometry.shapes.circle.Circle.Laws as T′
+use Rattle.shapes.specs.declared.circle.Circle.{Circle}
+use Rattle.shapes.proofs.circle.Circle as T
+use Rattle.shapes.proofs.circle.Circle.Laws as T′
 use Rattle.scope.specs.Links.{circle, nowhere}
 use Rattle.intake.specs.Limits.{maxCircles}
 use Rattle.intake.specs.Lent.{stored}

@@ -52,9 +52,9 @@ use denote.Exit.{yes}
 use base.Logic.{emp, via, fst∗}
 use borrow.Author.Tests.{lt-ltb, le-ltb}
 use Rattle.shapes.specs.Records.{pointAt, rectangleOf}
-use Rattle.shapes.specs.declared.geometry.shapes.rectangle.Rectangle.{Rectangle}
-use Rattle.shapes.proofs.geometry.shapes.rectangle.Rectangle as T
-use Rattle.shapes.proofs.geometry.shapes.rectangle.Rectangle.Laws as T′
+use Rattle.shapes.specs.declared.rectangle.Rectangle.{Rectangle}
+use Rattle.shapes.proofs.rectangle.Rectangle as T
+use Rattle.shapes.proofs.rectangle.Rectangle.Laws as T′
 use Rattle.scope.specs.Packing.{noRectangle}
 use Rattle.intake.specs.Limits.{maxCircles}
 use Rattle.intake.specs.LentBoxes.{unloaded, withRectangle, loaded}

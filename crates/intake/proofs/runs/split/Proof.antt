@@ -50,11 +50,11 @@ use denote.Triple.Table.{entered, cited}
 use denote.Triple.Walked.{says, Stays, stay-none-slice, stay-ref, walkOf, Walks, ends-at, walked, goes-none-slice, goes-ref, walk-meets}
 use denote.Exit.{yes}
 use borrow.Author.Tests.{lt-ltb, le-ltb}
-use Rattle.shapes.specs.declared.geometry.shapes.circle.Circle.{Circle}
-use Rattle.shapes.proofs.geometry.shapes.circle.Circle as T
-use Rattle.shapes.proofs.geometry.shapes.circle.Circle.Laws as T′
-use Rattle.shapes.proofs.geometry.primitives.point.Point as P
-use Rattle.shapes.proofs.geometry.primitives.point.Point.Laws as P′
+use Rattle.shapes.specs.declared.circle.Circle.{Circle}
+use Rattle.shapes.proofs.circle.Circle as T
+use Rattle.shapes.proofs.circle.Circle.Laws as T′
+use Rattle.shapes.proofs.point.Point as P
+use Rattle.shapes.proofs.point.Point.Laws as P′
 use Rattle.scope.specs.Links.{nowhere}
 use Rattle.intake.specs.Columns.{xsOf, ysOf, radiiOf}
 use Rattle.intake.proofs.Columns.{length-xs, length-ys, length-radii, x-at, y-at, radius-at}

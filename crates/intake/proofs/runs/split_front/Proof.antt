@@ -6,7 +6,7 @@ use mathlib.Core.List.{List}
 use lib.Ieee.{nan}
 use lib.ListN.{length, getD, take, length-set}
 use lib.Seq.{length-take-le, getD-take}
-use Rattle.shapes.specs.declared.geometry.shapes.circle.Circle.{Circle}
+use Rattle.shapes.specs.declared.circle.Circle.{Circle}
 use Rattle.scope.specs.Links.{circle, nowhere}
 use Rattle.intake.specs.Limits.{maxCircles}
 use Rattle.intake.specs.Columns.{xsOf, ysOf, radiiOf}

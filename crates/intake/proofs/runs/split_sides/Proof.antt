@@ -50,9 +50,9 @@ use denote.Triple.Table.{entered, cited}
 use denote.Triple.Walked.{says, Stays, stay-none-slice, stay-ref, walkOf, Walks, ends-at, walked, goes-none-slice, goes-ref, walk-meets}
 use denote.Exit.{yes}
 use borrow.Author.Tests.{lt-ltb, le-ltb}
-use Rattle.shapes.specs.declared.geometry.shapes.rectangle.Rectangle.{Rectangle}
-use Rattle.shapes.proofs.geometry.shapes.rectangle.Rectangle as T
-use Rattle.shapes.proofs.geometry.shapes.rectangle.Rectangle.Laws as T′
+use Rattle.shapes.specs.declared.rectangle.Rectangle.{Rectangle}
+use Rattle.shapes.proofs.rectangle.Rectangle as T
+use Rattle.shapes.proofs.rectangle.Rectangle.Laws as T′
 use Rattle.scope.specs.Packing.{noRectangle}
 use Rattle.intake.specs.Columns.{widthsOf, heightsOf}
 use Rattle.intake.proofs.Columns.{length-widths, length-heights, width-at, height-at}

@@ -44,11 +44,11 @@ use denote.Triple.Spec.{Meets, tripleOf}
 use denote.Triple.Table.{entered, cited}
 use denote.Triple.Walked.{says, Stays, stay-slice, stay-none, walkOf, Walks, ends-at, walked, goes-slice, goes-none, walk-meets}
 use denote.Exit.{yes}
-use Rattle.shapes.specs.declared.geometry.shapes.circle.Circle.{Circle}
-use Rattle.shapes.proofs.geometry.shapes.circle.Circle as T
-use Rattle.shapes.specs.declared.geometry.shapes.rectangle.Rectangle.{Rectangle}
-use Rattle.shapes.proofs.geometry.shapes.rectangle.Rectangle as Q
-use Rattle.shapes.proofs.geometry.shapes.rectangle.Rectangle.Laws as Q′
+use Rattle.shapes.specs.declared.circle.Circle.{Circle}
+use Rattle.shapes.proofs.circle.Circle as T
+use Rattle.shapes.specs.declared.rectangle.Rectangle.{Rectangle}
+use Rattle.shapes.proofs.rectangle.Rectangle as Q
+use Rattle.shapes.proofs.rectangle.Rectangle.Laws as Q′
 use Rattle.intake.specs.Limits.{maxCircles}
 use Rattle.intake.specs.Columns.{xsOf, ysOf, radiiOf}
 use Rattle.layout.specs.Recentred.{recentred, writtenOf}

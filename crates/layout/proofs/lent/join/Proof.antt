@@ -50,11 +50,11 @@ use denote.Triple.Walked.{says, needs, Stays, stay-slice, stay-none-ref, stay-no
 use denote.Exit.{yes}
 use borrow.Author.Tests.{lt-ltb, le-ltb}
 use Rattle.shapes.specs.Records.{pointAt}
-use Rattle.shapes.specs.declared.geometry.shapes.circle.Circle.{Circle}
-use Rattle.shapes.proofs.geometry.shapes.circle.Circle as T
-use Rattle.shapes.proofs.geometry.shapes.circle.Circle.Laws as T′
-use Rattle.shapes.proofs.geometry.primitives.point.Point as P
-use Rattle.shapes.proofs.geometry.primitives.point.Point.Laws as P′
+use Rattle.shapes.specs.declared.circle.Circle.{Circle}
+use Rattle.shapes.proofs.circle.Circle as T
+use Rattle.shapes.proofs.circle.Circle.Laws as T′
+use Rattle.shapes.proofs.point.Point as P
+use Rattle.shapes.proofs.point.Point.Laws as P′
 use Rattle.scope.specs.Links.{nowhere}
 use Rattle.intake.specs.Limits.{maxCircles}
 use Rattle.intake.specs.Columns.{circleOf, at as at-place}

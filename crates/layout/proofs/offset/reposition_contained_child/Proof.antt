@@ -5,7 +5,7 @@ use mathlib.Core.Path.{refl, sym, _∙_, _≡_}
 use lib.Ieee.{ofBits}
 use borrow.Author.Needs.{needs}
 use borrow.Author.Tests.{not-false, not-true}
-use Rattle.shapes.specs.declared.geometry.shapes.circle.Circle.{Circle}
+use Rattle.shapes.specs.declared.circle.Circle.{Circle}
 use Rattle.scope.specs.Numbers.{_*ᶠ_, _≤ᶠ_, nought, half}
 use Rattle.scope.specs.Distance.{contains}
 use Rattle.scope.specs.Offset.{blocked, childAt, move, repositioned, there}

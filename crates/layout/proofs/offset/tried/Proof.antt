@@ -6,7 +6,7 @@ use mathlib.Core.Path.{ap, sym, _∙_, _≡_}
 use lib.ListN.{length}
 use borrow.Author.Needs.{needs}
 use borrow.Author.Tests.{not-false, not-true}
-use Rattle.shapes.specs.declared.geometry.shapes.circle.Circle.{Circle}
+use Rattle.shapes.specs.declared.circle.Circle.{Circle}
 use Rattle.scope.specs.Links.{Region}
 use Rattle.scope.specs.Offset.{onlyChild, parents, tried}
 use Rattle.intake.specs.Columns.{circlesOf}

@@ -22,7 +22,7 @@ use denote.Triple.Statement.{Contract, Triple}
 use denote.Triple.Call.{calls-at}
 use denote.Triple.Spec.{Spec, Meets, tripleOf}
 use denote.Triple.Table.{entered, cited}
-use Rattle.shapes.proofs.geometry.shapes.circle.Circle as T
+use Rattle.shapes.proofs.circle.Circle as T
 use Rattle.clustering.proofs.Clusters as R
 use Rattle.clustering.proofs.Clusters.Laws as R′
 use Rattle.clustering.proofs.find_clusters.Symbol as callee-def

@@ -25,9 +25,9 @@ use denote.Triple.Statement.{Contract, Triple}
 use denote.Triple.Call.{calls-at}
 use denote.Triple.Spec.{Spec, Meets, tripleOf}
 use denote.Triple.Table.{entered, cited}
-use Rattle.shapes.proofs.geometry.shapes.circle.Circle as T
-use Rattle.shapes.proofs.geometry.shapes.rectangle.Rectangle as Q
-use Rattle.shapes.proofs.geometry.shapes.rectangle.Rectangle.Laws as Q′
+use Rattle.shapes.proofs.circle.Circle as T
+use Rattle.shapes.proofs.rectangle.Rectangle as Q
+use Rattle.shapes.proofs.rectangle.Rectangle.Laws as Q′
 use Rattle.layout.proofs.container.Placed as R
 use Rattle.layout.proofs.container.Placed.Laws as R′
 use Rattle.layout.proofs.container.normalize_layout_with_container.Symbol as callee-def

@@ -28,7 +28,7 @@ use denote.Triple.Statement.{Contract, Triple}
 use denote.Triple.Call.{calls-at}
 use denote.Triple.Spec.{Spec, Meets, tripleOf}
 use denote.Triple.Table.{entered, cited}
-use Rattle.shapes.proofs.geometry.shapes.circle.Circle as T
+use Rattle.shapes.proofs.circle.Circle as T
 use Rattle.layout.proofs.normalize.Result as R
 use Rattle.layout.proofs.normalize.Result.Laws as R′
 use Rattle.layout.proofs.normalize.normalize_layout_with_clusters.Symbol as callee-def

@@ -24,7 +24,7 @@ use denote.Triple.Statement.{Contract, Triple}
 use denote.Triple.Call.{calls-at}
 use denote.Triple.Spec.{Spec, Meets, tripleOf}
 use denote.Triple.Table.{entered, cited}
-use Rattle.shapes.proofs.geometry.shapes.rectangle.Rectangle as T
+use Rattle.shapes.proofs.rectangle.Rectangle as T
 use Rattle.packing.proofs.Packed as R
 use Rattle.packing.proofs.Packed.Laws as R′
 use Rattle.packing.proofs.skyline_pack.Symbol as callee-def

@@ -3,8 +3,8 @@ use lib.Ieee.{ofBits}
 use Rattle.shapes.specs.Limits.{smallestNormal}
 use Rattle.shapes.specs.Lift.{lift}
 use borrow.Author.Needs.{needs}
-use Rattle.shapes.proofs.geometry.shapes.circle.Circle.lift.Statement.{statement}
-use Rattle.shapes.proofs.geometry.shapes.circle.Circle.lift.Tie as tie
+use Rattle.shapes.proofs.circle.Circle.lift.Statement.{statement}
+use Rattle.shapes.proofs.circle.Circle.lift.Tie as tie
 
 maximum-requires : tie.Need-maximum-requires
 maximum-requires c κs = search needs

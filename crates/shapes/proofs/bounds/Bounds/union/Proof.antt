@@ -1,7 +1,7 @@
 -- `Bounds::union` meets its contract, by those of `minimum` and `maximum`.
 use borrow.Author.Needs.{needs}
-use Rattle.shapes.proofs.geometry.primitives.bounds.Bounds.union.Statement.{statement}
-use Rattle.shapes.proofs.geometry.primitives.bounds.Bounds.union.Tie as tie
+use Rattle.shapes.proofs.bounds.Bounds.union.Statement.{statement}
+use Rattle.shapes.proofs.bounds.Bounds.union.Tie as tie
 
 minimum-requires : tie.Need-minimum-requires
 minimum-requires c κs = search needs

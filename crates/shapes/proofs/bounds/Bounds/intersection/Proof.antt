@@ -3,14 +3,14 @@ use mathlib.Core.Path.{_≡_}
 use mathlib.Core.Bool.{Bool, true, false, cond}
 use mathlib.Core.Logic.{⊎-elim}
 use borrow.Author.Needs.{needs}
-use Rattle.shapes.specs.declared.geometry.primitives.bounds.Bounds.{Bounds}
-use Rattle.shapes.specs.declared.geometry.primitives.bounds.Overlap.the-variants.{Box, Empty}
+use Rattle.shapes.specs.declared.bounds.Bounds.{Bounds}
+use Rattle.shapes.specs.declared.bounds.Overlap.the-variants.{Box, Empty}
 use Rattle.shapes.specs.Records.{boxOf}
 use Rattle.shapes.specs.Boxes.{sharedBox, proper, overlapOf}
-use Rattle.shapes.proofs.geometry.primitives.bounds.Bounds.intersection.Statement.{
+use Rattle.shapes.proofs.bounds.Bounds.intersection.Statement.{
   statement,
 }
-use Rattle.shapes.proofs.geometry.primitives.bounds.Bounds.intersection.Tie as tie
+use Rattle.shapes.proofs.bounds.Bounds.intersection.Tie as tie
 
 decided : (a b s : Bounds) (t : Bool) → s ≡ sharedBox a b → proper s ≡ t → cond t (Box s) Empty ≡ overlapOf a b
 unfolding overlapOf

@@ -4,7 +4,7 @@ ghost use Rattle.shapes.specs.Records.{boxOf};
 ghost use Rattle.shapes.specs.Boxes.{widthOf, heightOf, areaOf, cornersOf, unionOf, overlapOf};
 use crate::extremes::maximum;
 use crate::extremes::minimum;
-use crate::geometry::primitives::point::Point;
+use crate::point::Point;
 
 #[repr(C)]
 pub struct Bounds {

@@ -1,7 +1,7 @@
 -- `Bounds::area` meets its contract, by those of `width` and `height`.
 use borrow.Author.Needs.{needs}
-use Rattle.shapes.proofs.geometry.primitives.bounds.Bounds.area.Statement.{statement}
-use Rattle.shapes.proofs.geometry.primitives.bounds.Bounds.area.Tie as tie
+use Rattle.shapes.proofs.bounds.Bounds.area.Statement.{statement}
+use Rattle.shapes.proofs.bounds.Bounds.area.Tie as tie
 
 width-requires : tie.Need-width-requires
 width-requires c κs = search needs

@@ -2,8 +2,8 @@
 use mathlib.Core.Path.{refl}
 use lib.Ieee.{ofBits}
 use Rattle.shapes.specs.Boxes.{half}
-use Rattle.shapes.proofs.geometry.shapes.rectangle.Rectangle.bounds.Statement.{statement}
-use Rattle.shapes.proofs.geometry.shapes.rectangle.Rectangle.bounds.Tie as tie
+use Rattle.shapes.proofs.rectangle.Rectangle.bounds.Statement.{statement}
+use Rattle.shapes.proofs.rectangle.Rectangle.bounds.Tie as tie
 
 returns : tie.Need-returns
 unfolding half ofBits

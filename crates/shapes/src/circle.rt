@@ -4,8 +4,8 @@ ghost use Rattle.shapes.specs.Boxes.{circleBox};
 ghost use Rattle.shapes.specs.Limits.{radiusInRange};
 ghost use Rattle.shapes.specs.Lift.{lift, circleAt, movedTo};
 use crate::extremes::maximum;
-use crate::geometry::primitives::bounds::Bounds;
-use crate::geometry::primitives::point::Point;
+use crate::bounds::Bounds;
+use crate::point::Point;
 
 #[repr(C)]
 pub struct Circle {

@@ -1,10 +1,10 @@
 -- `Circle::radius_in_range` meets its contract: the constants' patterns are the two limits.
 use lib.Ieee.{ofBits}
 use Rattle.shapes.specs.Limits.{smallestRadius, largestRadius}
-use Rattle.shapes.proofs.geometry.shapes.circle.Circle.radius_in_range.Statement.{
+use Rattle.shapes.proofs.circle.Circle.radius_in_range.Statement.{
   statement,
 }
-use Rattle.shapes.proofs.geometry.shapes.circle.Circle.radius_in_range.Tie as tie
+use Rattle.shapes.proofs.circle.Circle.radius_in_range.Tie as tie
 
 returns : tie.Need-returns
 unfolding smallestRadius largestRadius ofBits

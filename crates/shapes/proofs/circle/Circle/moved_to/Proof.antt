@@ -1,7 +1,7 @@
 -- `Circle::moved_to` meets its contract, by those of `Point::new` and `lift`.
 use borrow.Author.Needs.{needs}
-use Rattle.shapes.proofs.geometry.shapes.circle.Circle.moved_to.Statement.{statement}
-use Rattle.shapes.proofs.geometry.shapes.circle.Circle.moved_to.Tie as tie
+use Rattle.shapes.proofs.circle.Circle.moved_to.Statement.{statement}
+use Rattle.shapes.proofs.circle.Circle.moved_to.Tie as tie
 
 new-requires : tie.Need-new-requires
 new-requires c κs = search needs

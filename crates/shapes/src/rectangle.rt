@@ -2,8 +2,8 @@
 ghost use mathlib.Core.Path.{_≡_};
 ghost use Rattle.shapes.specs.Records.{rectangleOf};
 ghost use Rattle.shapes.specs.Boxes.{rectangleBox};
-use crate::geometry::primitives::bounds::Bounds;
-use crate::geometry::primitives::point::Point;
+use crate::bounds::Bounds;
+use crate::point::Point;
 
 #[repr(C)]
 pub struct Rectangle {

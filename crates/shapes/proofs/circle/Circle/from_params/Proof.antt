@@ -1,7 +1,7 @@
 -- `Circle::from_params` meets its contract, by those of `Point::new` and `lift`.
 use borrow.Author.Needs.{needs}
-use Rattle.shapes.proofs.geometry.shapes.circle.Circle.from_params.Statement.{statement}
-use Rattle.shapes.proofs.geometry.shapes.circle.Circle.from_params.Tie as tie
+use Rattle.shapes.proofs.circle.Circle.from_params.Statement.{statement}
+use Rattle.shapes.proofs.circle.Circle.from_params.Tie as tie
 
 new-requires : tie.Need-new-requires
 new-requires c κs = search needs

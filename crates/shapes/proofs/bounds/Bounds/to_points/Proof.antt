@@ -1,7 +1,7 @@
 -- `Bounds::to_points` meets its contract, by that of `Point::new`.
 use borrow.Author.Needs.{needs}
-use Rattle.shapes.proofs.geometry.primitives.bounds.Bounds.to_points.Statement.{statement}
-use Rattle.shapes.proofs.geometry.primitives.bounds.Bounds.to_points.Tie as tie
+use Rattle.shapes.proofs.bounds.Bounds.to_points.Statement.{statement}
+use Rattle.shapes.proofs.bounds.Bounds.to_points.Tie as tie
 
 new-requires : tie.Need-new-requires
 new-requires c κs = search needs

@@ -1,2 +1,0 @@
-pub mod primitives;
-pub mod shapes;

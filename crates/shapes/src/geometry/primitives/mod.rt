@@ -1,2 +1,0 @@
-pub mod bounds;
-pub mod point;

@@ -1,2 +1,0 @@
-pub mod circle;
-pub mod rectangle;
