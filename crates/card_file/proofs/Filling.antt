@@ -7,7 +7,7 @@ use mathlib.Core.List.{List, [], _∷_, _++_}
 use lib.ListN.{length, take, drop, set, replicate, length-set, length-replicate}
 use lib.Seq.{drop-drop, drop-set-lt, take-suc-set, length-take-le}
 use Rattle.scope.specs.Numbers.{nought}
-use Rattle.intake.specs.Lent.{blank}
+use Rattle.intake.specs.Blanks.{blank}
 use Rattle.intake.specs.Limits.{maxCircles, maxRegions}
 use Rattle.card_file.specs.Unused.{Uses, RestIsBlank}
 use Rattle.card_file.specs.Answers.{refusedCard}

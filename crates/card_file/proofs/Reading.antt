@@ -17,7 +17,7 @@ use Rattle.scope.specs.Refusals.{Answer, refused, given, tooMany, tooManyRegion
 use Rattle.scope.specs.CardFile.{Card, tag, body, bodyLength, headLength, bodyCut, misplaced, word, floatOf, circleOf, withField, firstRefusal, nextRefusal, orRefused, fields, readFile}
 use Rattle.promises.proofs.Cases.{is-false, and-iff, or-iff, not-not-iff, eqb-iff, not-ltb-iff}
 use Rattle.promises.proofs.EntryPoints.{first-field-reads, next-field-reads}
-use Rattle.intake.specs.Lent.{blank}
+use Rattle.intake.specs.Blanks.{blank}
 use Rattle.intake.specs.Limits.{maxCircles, maxRegions}
 use Rattle.card_file.specs.Answers.{listed, started}
 use Rattle.card_file.specs.Unused.{Uses}

@@ -8,7 +8,7 @@ use Rattle.scope.specs.Numbers.{nought}
 use Rattle.scope.specs.Refusals.{Answer, refused, given, answer}
 use Rattle.scope.specs.CardFile.{factorField, circleField, regionField}
 use Rattle.scope.specs.CardFile as scope
-use Rattle.intake.specs.Lent.{blank}
+use Rattle.intake.specs.Blanks.{blank}
 use Rattle.intake.specs.Limits.{maxCircles, maxRegions}
 use Rattle.card_file.specs.declared.fields.Field.{Field}
 use Rattle.card_file.specs.declared.fields.Field.the-variants.{Factor, Circle, Region, Refused}

@@ -5,7 +5,7 @@ use mathlib.Core.Logic.{_≢_}
 use mathlib.Core.List.{List}
 use lib.ListN.{length, drop, replicate}
 use Rattle.scope.specs.Numbers.{nought}
-use Rattle.intake.specs.Lent.{blank}
+use Rattle.intake.specs.Blanks.{blank}
 use Rattle.intake.specs.Limits.{maxCircles, maxRegions}
 use Rattle.card_file.specs.declared.cards.Card.{Card}
 use Rattle.card_file.specs.Answers.{refusedCard}

@@ -1,5 +1,5 @@
 -- A mask of 64 bits has none beyond them.
-use Prim.Native.Nat.{ℕ, _*_, _/_, _%_, _^_, _≤_, _<_}
+use Prim.Native.Nat.{ℕ, _*_, _/_, _^_, _≤_, _<_}
 use native.Mathlib.Omega.{arith}
 use native.Mathlib.Nat.{div-lt-iff-lt-mul, lt-of-lt-of-le}
 use mathlib.Core.Path.{_≡_, refl}

@@ -1,7 +1,6 @@
 -- Words of causes: one cause, two words joined, and the number that a word gives, which is the refusal of what it says.
-use Prim.Native.Nat.{ℕ, suc, _+_, _^_, _<_}
+use Prim.Native.Nat.{ℕ, _+_, _^_, _<_}
 use native.Mathlib.Numerals.{add-one}
-use native.Mathlib.Omega.{arith}
 use mathlib.Core.Path.{_≡_, refl, sym, ap, _∙_}
 use mathlib.Core.Bool.{Bool, true, false, cond, _&&_, _||_, or-false, and-true, and-false}
 use mathlib.Core.List.{List, [], _∷_, _++_}
@@ -38,11 +37,7 @@ bit-power j k =
 bit-none : (k : ℕ) → bit 0 k ≡ false
 bit-none k = is-false (bit 0 k) (bit-past 0 k (pow-pos k))
 
--- ---- one cause, and none
-pub no-cause : Says 0 []
-unfolding causeHolds
-no-cause k = bit-none k
-
+-- ---- one cause
 pub one-cause : (j : ℕ) (b : Bool) (w : ℕ) → w ≡ cond b (2 ^ j) 0 → Says w ((j, b) ∷ [])
 unfolding causeHolds
 one-cause j true w e k = rw e (bit-power j k ∙ sym (or-false _ ∙ and-true (eqb j k)))

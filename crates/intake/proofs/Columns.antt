@@ -12,7 +12,6 @@ use lib.Dec.{T}
 use lib.Ieee.{Float, nan}
 use Rattle.shapes.specs.declared.circle.Circle.{Circle}
 use Rattle.shapes.specs.declared.rectangle.Rectangle.{Rectangle}
-use Rattle.shapes.specs.Records.{pointAt}
 use Rattle.scope.specs.Numbers.{_+ᶠ_}
 use Rattle.scope.specs.Runs.{tab, any, someBelow}
 use Rattle.scope.specs.Limits.{coordinateOk, radiusOk}
@@ -20,7 +19,6 @@ use Rattle.scope.specs.Links.{circle, nowhere}
 use Rattle.scope.specs.Refusals.{badPoint, badCentre, badRadius}
 use Rattle.scope.specs.Packing.{rectangle}
 use Rattle.scope.specs.Offset.{translated}
-use Rattle.scope.specs.Gauge.{changed}
 use Rattle.scope.specs.Centring.{allTranslated}
 use Rattle.promises.proofs.Cases.{or-iff}
 use Rattle.promises.proofs.Runs.{length-tab, getD-tab, tab-equal, any-at, someBelow-iff}
@@ -134,14 +132,14 @@ pub any-either : {A : Type 0} (p : A → Bool) (q : Float → Bool) (l : List A)
 any-either p q l d xs ys e f same =
     same-truth (any p l) (any q xs || any q ys)
     (λ t. let g = any-at p l d .0 t in
-        let i = g .0 in
-        let below : i < length xs = rw e at (g .1) in
-        or-iff (any q xs) (any q ys) .1
-        (⊎-elim (λ u. inl (any-at q xs nan .1 (i, below, u))) (λ u. inr (any-at q ys nan .1 (i, rw f below, u))) (or-iff (q (at xs i)) (q (at ys i)) .0 (rw (same i below) at (g .2)))))
+    let i = g .0 in
+    let below : i < length xs = rw e at (g .1) in
+    or-iff (any q xs) (any q ys) .1
+    (⊎-elim (λ u. inl (any-at q xs nan .1 (i, below, u))) (λ u. inr (any-at q ys nan .1 (i, rw f below, u))) (or-iff (q (at xs i)) (q (at ys i)) .0 (rw (same i below) at (g .2)))))
     (λ t. ⊎-elim
-        (λ u. let g = any-at q xs nan .0 u in found (g .0) (g .1) (or-iff (q (at xs (g .0))) (q (at ys (g .0))) .1 (inl (g .2))))
-        (λ u. let g = any-at q ys nan .0 u in found (g .0) (rw f at (g .1)) (or-iff (q (at xs (g .0))) (q (at ys (g .0))) .1 (inr (g .2))))
-        (or-iff (any q xs) (any q ys) .0 t))
+    (λ u. let g = any-at q xs nan .0 u in found (g .0) (g .1) (or-iff (q (at xs (g .0))) (q (at ys (g .0))) .1 (inl (g .2))))
+    (λ u. let g = any-at q ys nan .0 u in found (g .0) (rw f at (g .1)) (or-iff (q (at xs (g .0))) (q (at ys (g .0))) .1 (inr (g .2))))
+    (or-iff (any q xs) (any q ys) .0 t))
   where
     found : (i : ℕ) → i < length xs → T (q (at xs i) || q (at ys i)) → T (any p l)
     found i h t = any-at p l d .1 (i, rw e h, rw (same i h) t)
@@ -151,22 +149,22 @@ not-both true b = refl
 not-both false b = refl
 
 module _ (xs ys rs : List Float) where
-  pub any-centre : length ys ≡ length xs → any badCentre (circlesOf xs ys rs) ≡ any (λ x. not (coordinateOk x)) xs || any (λ y. not (coordinateOk y)) ys
+  any-centre : length ys ≡ length xs → any badCentre (circlesOf xs ys rs) ≡ any (λ x. not (coordinateOk x)) xs || any (λ y. not (coordinateOk y)) ys
   unfolding badCentre badPoint
   any-centre e =
       any-either badCentre (λ x. not (coordinateOk x)) (circlesOf xs ys rs) nowhere xs ys (length-shown xs ys rs) e
       (λ i h. rw (shown-at xs ys rs i h) (not-both (coordinateOk (at xs i)) (coordinateOk (at ys i))))
 
-  pub any-radius : length rs ≡ length xs → any badRadius (circlesOf xs ys rs) ≡ any (λ r. not (radiusOk r)) rs
+  any-radius : length rs ≡ length xs → any badRadius (circlesOf xs ys rs) ≡ any (λ r. not (radiusOk r)) rs
   unfolding badRadius
   any-radius e =
       same-truth _ _
       (λ t. let f = any-at badRadius (circlesOf xs ys rs) nowhere .0 t in
-          let below : f .0 < length xs = rw (length-shown xs ys rs) at (f .1) in
-          any-at (λ r. not (radiusOk r)) rs nan .1 (f .0, rw e below, rw (shown-at xs ys rs (f .0) below) at (f .2)))
+      let below : f .0 < length xs = rw (length-shown xs ys rs) at (f .1) in
+      any-at (λ r. not (radiusOk r)) rs nan .1 (f .0, rw e below, rw (shown-at xs ys rs (f .0) below) at (f .2)))
       (λ t. let f = any-at (λ r. not (radiusOk r)) rs nan .0 t in
-          let below : f .0 < length xs = rw e at (f .1) in
-          any-at badRadius (circlesOf xs ys rs) nowhere .1 (f .0, rw (length-shown xs ys rs) below, rw (shown-at xs ys rs (f .0) below) (f .2)))
+      let below : f .0 < length xs = rw e at (f .1) in
+      any-at badRadius (circlesOf xs ys rs) nowhere .1 (f .0, rw (length-shown xs ys rs) below, rw (shown-at xs ys rs (f .0) below) (f .2)))
 
 -- ---- the circles in the front of three arrays
 module _ (n m : ℕ) (xs ys rs : List Float) (x : length xs ≡ maxCircles) (y : length ys ≡ maxCircles) (r : length rs ≡ maxCircles) (room : m ≡ min n maxCircles) where

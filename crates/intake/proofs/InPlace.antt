@@ -6,11 +6,10 @@ use mathlib.Core.Path.{_≡_, refl, sym, ap, _∙_}
 use mathlib.Core.Bool.{Bool, true, false, cond}
 use mathlib.Core.List.{List, [], _∷_, _++_}
 use lib.ListN.{length, getD, set, take, drop}
-use lib.Seq.{length-take-le, getD-take, take-at, drop-at}
+use lib.Seq.{length-take-le, getD-take}
 use Rattle.scope.specs.Runs.{tab}
 use Rattle.promises.proofs.Runs.{length-tab, getD-tab, tab-equal}
-use Rattle.intake.specs.First.{onFirst}
-use Rattle.intake.proofs.Loading.{over, over-next}
+use Rattle.intake.proofs.Overwriting.{over, over-next}
 
 module _ {A : Type 0} where
   pub over-length : (i : ℕ) (xs ys : List A) → i ≤ length xs → i ≤ length ys → length (over i xs ys) ≡ length ys
@@ -74,16 +73,12 @@ module _ {A : Type 0} where
         e ∙ rw add-one (over-same i (rewritten g d l) l d (rw long h) h (getD-tab (length l) (λ k. g k (getD l k d)) i d h ∙ same))
 
     -- the end of the loop
-    pub all-rewritten : (n i : ℕ) {m : List A} → n ≤ length l → i ≤ n → n ≤ i → m ≡ so-far g d i l → m ≡ onFirst n (rewritten g d) l
+    pub all-rewritten : (n i : ℕ) {m : List A} → n ≤ length l → i ≤ n → n ≤ i → m ≡ so-far g d i l → m ≡ rewritten g d (take n l) ++ drop n l
     unfolding so-far
     all-rewritten n i h low high e =
         let all : i ≡ n = omega arith in
         let first = tab-equal n (λ k. g k (getD l k d)) (λ k. g k (getD (take n l) k d)) (λ k hk. ap (g k) (sym (getD-take n l k d hk))) in
         e ∙ rw (all, take-tab n (length l) (λ k. g k (getD l k d)) h, length-take-le n l h) (ap {B = List A} (λ k. k ++ drop n l) first)
-
-  -- one change of the first n after another
-  pub on-first-twice : (n : ℕ) (f g : List A → List A) (l : List A) → length (f (take n l)) ≡ n → onFirst n g (onFirst n f l) ≡ onFirst n (λ k. g (f k)) l
-  on-first-twice n f g l e = rw (take-at (f (take n l)) (drop n l) n e, drop-at (f (take n l)) (drop n l) n e)
 
   pub either-length : (b : Bool) (n : ℕ) (xs ys : List A) → length xs ≡ n → length ys ≡ n → length (cond b xs ys) ≡ n
   either-length true n xs ys e f = e

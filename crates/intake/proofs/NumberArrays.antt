@@ -1,4 +1,4 @@
--- A local array of f64: as it is made of one number, as what is lent, its length, and as room again when the function ends.
+-- A local array of f64: as it is made of one number, as what is lent, and as room again when the function ends.
 use Prim.Native.Nat.{ℕ, zero, suc}
 use mathlib.Core.Path.{_≡_, refl}
 use mathlib.Core.List.{List, [], _∷_}
@@ -80,13 +80,6 @@ module _ {M : Type 1} (𝓤 : URA M) (H : Heap 𝓤) (A : Atoms 𝓤) (W : Given
   array-room n xs b o =
       qed W (‵ (partAt (Array f64 n) fullShare xs b o) ∷ []) ∵ fpick ! (λ vs. fsplit ! $ move ! (1 ∷ []) $ peeks ! (Array f64 n) (Is (Array f64 n)) (shows 𝓤 H A (Array f64 n)) xs vs (λ is.
       rewrite ! 1 (λ (us : List Val). ‵ (cellAt fullShare (Array f64 n .mir) us b o)) (is .1 .0 .0) refl $ forget ! 1 refl $ keep ! (1 ∷ []) $ done !))
-
--- what lies in memory tells its length
-module _ {M : Type 1} {𝓤 : URA M} {H : Heap 𝓤} {A : Atoms 𝓤} {K : Type 0} {W : Given 𝓤 H A} {Γ : List (Item 𝓤)} {G : Goal 𝓤 H} where
-  pub array-long : K → (n : ℕ) (xs : List Float) (b o : ℕ) → (length xs ≡ n → Seq K W (‵ (partAt (Array f64 n) fullShare xs b o) ∷ Γ) G) → Seq K W (‵ (partAt (Array f64 n) fullShare xs b o) ∷ Γ) G
-  unfolding partOf
-  array-long t n xs b o k = fpick t (λ vs. fsplit t $ move t (1 ∷ []) $ peeks t (Array f64 n) (Is (Array f64 n)) (shows 𝓤 H A (Array f64 n)) xs vs (λ is.
-      move t (1 ∷ 0 ∷ []) $ fjoin t $ fpack t (List Val) (λ us. fsep (cellAt fullShare (Array f64 n .mir) us b o) (Array f64 n .own xs us)) vs $ k (is .1 .0 .1)))
 
 -- ---- an array behind a reference, as the row of its numbers
 module _ {M : Type 1} {𝓤 : URA M} {H : Heap 𝓤} {A : Atoms 𝓤} {K : Type 0} {W : Given 𝓤 H A} {Γ : List (Item 𝓤)} {G : Goal 𝓤 H} where

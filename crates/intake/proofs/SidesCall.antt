@@ -33,8 +33,8 @@ use denote.Triple.Spec.{tripleOf}
 use Rattle.shapes.specs.declared.rectangle.Rectangle.{Rectangle}
 use Rattle.shapes.proofs.rectangle.Rectangle as T
 use Rattle.intake.specs.Columns.{widthsOf, heightsOf}
+use Rattle.intake.specs.Splits.{countRefusal, SidesSplit}
 use Rattle.intake.proofs.NumberArrays.{F64s}
-use Rattle.intake.proofs.TakenCalls.{numberOf}
 use Rattle.intake.proofs.Splitting.{splitOf}
 use Rattle.intake.proofs.Lending.{refTo, lent-to-write, written-back}
 use Rattle.intake.proofs.runs.split_sides as split′
@@ -42,7 +42,7 @@ use Rattle.intake.proofs.runs.split_sides.Symbol.{name as #split}
 
 -- what it says of its answer and of the last lists
 abbrev Said : List Rectangle → List Float → List Float → ℕ → List Float → List Float → Type 0
-Said cs us vs r us′ vs′ = (r ≡ numberOf (length cs)) × (us′ ≡ splitOf widthsOf cs us) × (vs′ ≡ splitOf heightsOf cs vs)
+Said cs us vs r us′ vs′ = SidesSplit cs (us, vs) r (us′, vs′)
 
 -- its lifetimes and its arguments
 module _ (κ : Lft) (q : Share) (x₀ : RefT (List Rectangle)) (us vs : List Float) (b₁ b₂ : ℕ) (ν₁ ν₂ : ℕ) (γ₁ γ₂ : GName) where
@@ -77,7 +77,7 @@ module _ {M : Type 1} {𝓤 : URA M} {H : Heap 𝓤} {A : Atoms 𝓤} {K : Type 
   pub splits-sides : K → FmC 𝓤 H (W .laws) C → (at-mem : Memory → SProp 𝓤) (run : Routine → Fun 𝓤) → Triple 𝓤 (C #split) (Sides 𝓤 H A at-mem run)
       → (κ : Lft) (q : Share) (x₀ : RefT (List Rectangle)) (us vs : List Float) (b₁ b₂ : ℕ)
       → ((p i₁ i₂ : Item 𝓤) → Opds K W (p ∷ i₁ ∷ i₂ ∷ Γ) E os (sliceVal (x₀ .ptr) (length (x₀ .now)) ∷ vptr b₁ 0 ∷ vptr b₂ 0 ∷ []))
-      → (numberOf (length (x₀ .now)) < 2 ^ 8 → Seq K W (‵ (flft κ q) ∷ ‵ (partAt F64s fullShare (splitOf widthsOf (x₀ .now) us) b₁ 0) ∷ ‵ (partAt F64s fullShare (splitOf heightsOf (x₀ .now) vs) b₂ 0) ∷ Γ) (lands C Λ E d (vint w8 (numberOf (length (x₀ .now)))) rest q₀))
+      → (countRefusal (length (x₀ .now)) < 2 ^ 8 → Seq K W (‵ (flft κ q) ∷ ‵ (partAt F64s fullShare (splitOf widthsOf (x₀ .now) us) b₁ 0) ∷ ‵ (partAt F64s fullShare (splitOf heightsOf (x₀ .now) vs) b₂ 0) ∷ Γ) (lands C Λ E d (vint w8 (countRefusal (length (x₀ .now)))) rest q₀))
       → Seq K W (‵ (ShrSlice (named 0) κ T.the-row .own x₀ (sliceVal (x₀ .ptr) (length (x₀ .now)) ∷ [])) ∷ ‵ (flft κ q) ∷ ‵ (partAt F64s fullShare us b₁ 0) ∷ ‵ (partAt F64s fullShare vs b₂ 0) ∷ Γ) (runs C Λ E (seq (call #split os d) rest) q₀)
   splits-sides t fm at-mem run known κ q x₀ us vs b₁ b₂ reads k =
       move t (2 ∷ []) $ lent-to-write t tt F64s (named 1) us b₁ 0 (λ ν₁ γ₁.

@@ -34,8 +34,8 @@ use denote.Triple.Spec.{tripleOf}
 use Rattle.shapes.specs.declared.circle.Circle.{Circle}
 use Rattle.shapes.proofs.circle.Circle as T
 use Rattle.intake.specs.Columns.{xsOf, ysOf, radiiOf}
+use Rattle.intake.specs.Splits.{countRefusal, RunSplit}
 use Rattle.intake.proofs.NumberArrays.{F64s}
-use Rattle.intake.proofs.TakenCalls.{numberOf}
 use Rattle.intake.proofs.Splitting.{splitOf}
 use Rattle.intake.proofs.Lending.{refTo, lent-to-write, written-back, run-to-read, run-read-back}
 use Rattle.intake.proofs.runs.split as split′
@@ -43,7 +43,7 @@ use Rattle.intake.proofs.runs.split.Symbol.{name as #split}
 
 -- what it says of its answer and of the last lists
 abbrev Said : List Circle → List Float → List Float → List Float → ℕ → List Float → List Float → List Float → Type 0
-Said cs xs ys rs r xs′ ys′ rs′ = (r ≡ numberOf (length cs)) × (xs′ ≡ splitOf xsOf cs xs) × (ys′ ≡ splitOf ysOf cs ys) × (rs′ ≡ splitOf radiiOf cs rs)
+Said cs xs ys rs r xs′ ys′ rs′ = RunSplit cs (xs, ys, rs) r (xs′, ys′, rs′)
 
 -- its lifetimes and its arguments
 module _ (κ : Lft) (q : Share) (x₀ : RefT (List Circle)) (xs ys rs : List Float) (b₁ b₂ b₃ : ℕ) (ν₁ ν₂ ν₃ : ℕ) (γ₁ γ₂ γ₃ : GName) where
@@ -78,7 +78,7 @@ module _ {M : Type 1} {𝓤 : URA M} {H : Heap 𝓤} {A : Atoms 𝓤} {K : Type 
   pub splits-lent : K → FmC 𝓤 H (W .laws) C → (at-mem : Memory → SProp 𝓤) (run : Routine → Fun 𝓤) → Triple 𝓤 (C #split) (Split 𝓤 H A at-mem run)
       → (κ : Lft) (q : Share) (x₀ : RefT (List Circle)) (xs ys rs : List Float) (b₁ b₂ b₃ : ℕ)
       → ((p i₁ i₂ i₃ : Item 𝓤) → Opds K W (p ∷ i₁ ∷ i₂ ∷ i₃ ∷ Γ) E os (sliceVal (x₀ .ptr) (length (x₀ .now)) ∷ vptr b₁ 0 ∷ vptr b₂ 0 ∷ vptr b₃ 0 ∷ []))
-      → (numberOf (length (x₀ .now)) < 2 ^ 8 → Seq K W (‵ (flft κ q) ∷ ‵ (partAt F64s fullShare (splitOf xsOf (x₀ .now) xs) b₁ 0) ∷ ‵ (partAt F64s fullShare (splitOf ysOf (x₀ .now) ys) b₂ 0) ∷ ‵ (partAt F64s fullShare (splitOf radiiOf (x₀ .now) rs) b₃ 0) ∷ Γ) (lands C Λ E d (vint w8 (numberOf (length (x₀ .now)))) rest q₀))
+      → (countRefusal (length (x₀ .now)) < 2 ^ 8 → Seq K W (‵ (flft κ q) ∷ ‵ (partAt F64s fullShare (splitOf xsOf (x₀ .now) xs) b₁ 0) ∷ ‵ (partAt F64s fullShare (splitOf ysOf (x₀ .now) ys) b₂ 0) ∷ ‵ (partAt F64s fullShare (splitOf radiiOf (x₀ .now) rs) b₃ 0) ∷ Γ) (lands C Λ E d (vint w8 (countRefusal (length (x₀ .now)))) rest q₀))
       → Seq K W (‵ (ShrSlice (named 0) κ T.the-row .own x₀ (sliceVal (x₀ .ptr) (length (x₀ .now)) ∷ [])) ∷ ‵ (flft κ q) ∷ ‵ (partAt F64s fullShare xs b₁ 0) ∷ ‵ (partAt F64s fullShare ys b₂ 0) ∷ ‵ (partAt F64s fullShare rs b₃ 0) ∷ Γ) (runs C Λ E (seq (call #split os d) rest) q₀)
   splits-lent t fm at-mem run known κ q x₀ xs ys rs b₁ b₂ b₃ reads k =
       move t (2 ∷ []) $ lent-to-write t tt F64s (named 1) xs b₁ 0 (λ ν₁ γ₁.
@@ -104,7 +104,7 @@ module _ {M : Type 1} {𝓤 : URA M} {H : Heap 𝓤} {A : Atoms 𝓤} {K : Type 
   pub splits : K → FmC 𝓤 H (W .laws) C → (at-mem : Memory → SProp 𝓤) (run : Routine → Fun 𝓤) → Triple 𝓤 (C #split) (Split 𝓤 H A at-mem run)
       → (cs : List Circle) (xs ys rs : List Float) (b₀ o₀ b₁ b₂ b₃ : ℕ) → Room T.the-row (length cs)
       → ((p i₁ i₂ i₃ i₀ : Item 𝓤) → Opds K W (p ∷ i₁ ∷ i₂ ∷ i₃ ∷ i₀ ∷ Γ) E os (sliceVal (b₀, o₀) (length cs) ∷ vptr b₁ 0 ∷ vptr b₂ 0 ∷ vptr b₃ 0 ∷ []))
-      → (numberOf (length cs) < 2 ^ 8 → Seq K W (‵ (row T.the-row fullShare cs b₀ o₀) ∷ ‵ (partAt F64s fullShare (splitOf xsOf cs xs) b₁ 0) ∷ ‵ (partAt F64s fullShare (splitOf ysOf cs ys) b₂ 0) ∷ ‵ (partAt F64s fullShare (splitOf radiiOf cs rs) b₃ 0) ∷ Γ) (lands C Λ E d (vint w8 (numberOf (length cs))) rest q₀))
+      → (countRefusal (length cs) < 2 ^ 8 → Seq K W (‵ (row T.the-row fullShare cs b₀ o₀) ∷ ‵ (partAt F64s fullShare (splitOf xsOf cs xs) b₁ 0) ∷ ‵ (partAt F64s fullShare (splitOf ysOf cs ys) b₂ 0) ∷ ‵ (partAt F64s fullShare (splitOf radiiOf cs rs) b₃ 0) ∷ Γ) (lands C Λ E d (vint w8 (countRefusal (length cs))) rest q₀))
       → Seq K W (‵ (row T.the-row fullShare cs b₀ o₀) ∷ ‵ (partAt F64s fullShare xs b₁ 0) ∷ ‵ (partAt F64s fullShare ys b₂ 0) ∷ ‵ (partAt F64s fullShare rs b₃ 0) ∷ Γ) (runs C Λ E (seq (call #split os d) rest) q₀)
   splits t fm at-mem run known cs xs ys rs b₀ o₀ b₁ b₂ b₃ g reads k =
       run-to-read t tt T.the-row (named 0) cs b₀ o₀ g (λ ν γ. move t (0 ∷ 1 ∷ 3 ∷ 4 ∷ 5 ∷ []) $

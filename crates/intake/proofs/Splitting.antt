@@ -3,7 +3,7 @@ use Prim.Native.Nat.{ℕ, _+_, _≤_, _<_}
 use native.Mathlib.Omega.{arith}
 use native.Mathlib.Numerals.{add-one}
 use mathlib.Core.Path.{_≡_, refl, _∙_}
-use mathlib.Core.Bool.{Bool, true, false, cond}
+use mathlib.Core.Bool.{Bool, true, false}
 use mathlib.Core.List.{List}
 use lib.ListN.{length, getD, set, take, drop}
 use lib.Seq.{take-all, take-at}
@@ -14,11 +14,11 @@ use Rattle.scope.specs.Refusals.{tooMany}
 use Rattle.intake.specs.Limits.{maxCircles}
 use Rattle.intake.specs.CauseWords.{front}
 use Rattle.intake.specs.Columns.{xsOf, ysOf, radiiOf, overwritten}
+use Rattle.intake.specs.Splits.{takenOf, loaded}
 use Rattle.intake.proofs.Columns.{length-xs, length-ys, length-radii, shown-back}
 use Rattle.intake.proofs.Checking.{few}
-use Rattle.intake.proofs.Loading.{over, over-next}
+use Rattle.intake.proofs.Overwriting.{over, over-next}
 use Rattle.intake.proofs.InPlace.{over-length}
-use Rattle.intake.proofs.TakenCalls.{takenOf}
 
 pub taken-few : (n : ℕ) → (takenOf n ≤ n) × (takenOf n ≤ maxCircles)
 unfolding circleCap
@@ -30,7 +30,7 @@ taken-few n = by-count (tooMany n) refl
 
 -- an array after `split` or `split_sides`, from its column of the run
 abbrev pub splitOf : {A B : Type 0} → (List A → List B) → List A → List B → List B
-splitOf f cs zs = cond (tooMany (length cs)) zs (overwritten (f cs) zs)
+splitOf f cs zs = loaded (length cs) (f cs) zs
 
 -- the column of the numbers that f takes of the records, over the array zs
 module _ {A B : Type 0} (f : A → B) (cs : List A) (d : A) (e : B) (col : List B) (long : length col ≡ length cs) (same : (i : ℕ) → i < length cs → getD col i e ≡ f (getD cs i d)) (zs : List B) (wide : length zs ≡ maxCircles) where
@@ -52,11 +52,11 @@ module _ {A B : Type 0} (f : A → B) (cs : List A) (d : A) (e : B) (col : List 
       let room = taken-few (length cs) in
       rw (← same i (omega arith), add-one) (over-next i col zs e (rw long (omega arith)) (rw wide (omega arith)))
 
-  pub column-all : column end ≡ cond (tooMany (length cs)) zs (overwritten col zs)
+  pub column-all : column end ≡ loaded (length cs) col zs
   unfolding overwritten
   column-all = by-count (tooMany (length cs)) refl
     where
-      by-count : (b : Bool) → tooMany (length cs) ≡ b → column end ≡ cond (tooMany (length cs)) zs (overwritten col zs)
+      by-count : (b : Bool) → tooMany (length cs) ≡ b → column end ≡ loaded (length cs) col zs
       by-count true h = rw h
       by-count false h = rw (h, long, take-all (length cs) col (rw long (omega arith)))
 
@@ -70,7 +70,7 @@ module _ {A B : Type 0} (f : A → B) (n : ℕ) (cs : List A) (d : A) (e : B) (c
   front-all i low high q = let all : i ≡ n = omega arith in q ∙ rw (all, long, take-all n col (rw long (omega arith)))
 
 -- ---- and back: a column out of its array, and circles out of three
-pub front-of-column : {A : Type 0} (n : ℕ) (col zs : List A) → length col ≡ n → take n (overwritten col zs) ≡ col
+front-of-column : {A : Type 0} (n : ℕ) (col zs : List A) → length col ≡ n → take n (overwritten col zs) ≡ col
 unfolding overwritten
 front-of-column n col zs e = take-at col (drop (length col) zs) n e
 

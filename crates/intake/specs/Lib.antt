@@ -1,6 +1,5 @@
 pub mod Limits
-pub mod Lent
-pub mod LentBoxes
-pub mod First
+pub mod Blanks
 pub mod Columns
+pub mod Splits
 pub mod CauseWords

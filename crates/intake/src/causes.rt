@@ -6,8 +6,8 @@ ghost use Prim.Native.Nat.{_<_};
 ghost use lib.ListN.{length};
 ghost use Rattle.scope.specs.Runs.{any, bit};
 ghost use Rattle.scope.specs.Limits.{within, coordinateOk, radiusOk, sideOk};
-ghost use Rattle.scope.specs.Refusals.{causes, first, tooMany, unequal, tooManyRegions, rising, badPoint, badCentre, badRadius, badFactor, badSide, badPadding};
-ghost use Rattle.intake.specs.CauseWords.{Says, circleChecks};
+ghost use Rattle.scope.specs.Refusals.{causes, first, tooMany, rising, badPoint, badCentre, badRadius, badFactor, badSide, badPadding};
+ghost use Rattle.intake.specs.CauseWords.{Says, circleChecks, regionChecks};
 ghost use Rattle.intake.specs.Limits.{maxCircles};
 use crate::limits::MAX_CIRCLES;
 use crate::limits::MAX_COORDINATE;
@@ -21,9 +21,8 @@ use crate::limits::bad_side;
 use crate::limits::room;
 use crate::limits::too_many;
 use crate::limits::too_many_regions;
-use crate::refusals::is_rising;
-use shapes::point::Point;
 use shapes::circle::Circle;
+use shapes::point::Point;
 use shapes::rectangle::Rectangle;
 
 // Document 01's order: 13 goes before 2. A later number is appended.
@@ -68,9 +67,25 @@ pub fn of_count(n: usize) -> u32
 
 // 13, 2, 5
 pub fn of_regions(masks: &[u64], areas: &[f64]) -> u32
-    ensures { λ r. ⌜ Says r ((13, unequal (now (masks .entry)) (now (areas .entry))) ∷ (2, tooManyRegions (length (now (masks .entry)))) ∷ (5, not (rising (now (masks .entry)))) ∷ []) ⌝ }
+    ensures { λ r. ⌜ Says r (regionChecks (now (masks .entry)) (now (areas .entry))) ⌝ }
 {
-    flag(masks.len() != areas.len(), 8192) | flag(too_many_regions(masks.len()), 4) | flag(!is_rising(masks), 32)
+    flag(masks.len() != areas.len(), 8192)
+        | flag(too_many_regions(masks.len()), 4)
+        | flag(!is_rising(masks), 32)
+}
+
+// Whether each mask is below the next.
+fn is_rising(masks: &[u64]) -> bool
+    ensures { λ r. ⌜ r ≡ rising (now (masks .entry)) ⌝ }
+{
+    let mut i: usize = 0;
+    while i + 1 < masks.len() {
+        if masks[i] >= masks[i + 1] {
+            return false;
+        }
+        i += 1;
+    }
+    true
 }
 
 // 3 for either
@@ -84,7 +99,8 @@ pub fn of_points(p: Point, q: Point) -> u32
 pub fn of_pair(a: Circle, b: Circle) -> u32
     ensures { λ r. ⌜ Says r ((3, badCentre a || badCentre b) ∷ (4, badRadius a || badRadius b) ∷ []) ⌝ }
 {
-    (flag(bad_centre(a), 8) | flag(bad_centre(b), 8)) | (flag(bad_radius(a), 16) | flag(bad_radius(b), 16))
+    (flag(bad_centre(a), 8) | flag(bad_centre(b), 8))
+        | (flag(bad_radius(a), 16) | flag(bad_radius(b), 16))
 }
 
 // 3 for either, 4
@@ -116,17 +132,20 @@ pub fn of_padding(x: f64) -> u32
 }
 
 // 3, of any number of a list
-pub fn of_coordinates(list: &[f64]) -> u32
+fn of_coordinates(list: &[f64]) -> u32
     ensures { λ r. ⌜ Says r ((3, any (λ x. not (coordinateOk x)) (now (list .entry))) ∷ []) ⌝ }
 {
     flag(any_outside(list, -MAX_COORDINATE, MAX_COORDINATE), 8)
 }
 
 // 4
-pub fn of_radii(list: &[f64]) -> u32
+fn of_radii(list: &[f64]) -> u32
     ensures { λ r. ⌜ Says r ((4, any (λ x. not (radiusOk x)) (now (list .entry))) ∷ []) ⌝ }
 {
-    flag(any_outside(list, Circle::MIN_RADIUS, Circle::MAX_RADIUS), 16)
+    flag(
+        any_outside(list, Circle::MIN_RADIUS, Circle::MAX_RADIUS),
+        16,
+    )
 }
 
 // 7

@@ -4,8 +4,8 @@ ghost use Prim.Native.Nat.{min};
 ghost use Rattle.scope.specs.Limits.{coordinateOk, sideOk};
 ghost use Rattle.scope.specs.Refusals.{tooMany, tooManyRegions, badPoint, badCentre, badRadius, badFactor, badSide, badPadding};
 ghost use Rattle.intake.specs.Limits.{maxCircles};
-use shapes::point::Point;
 use shapes::circle::Circle;
+use shapes::point::Point;
 use shapes::rectangle::Rectangle;
 
 pub const MAX_CIRCLES: usize = 64;
@@ -21,7 +21,7 @@ pub(crate) const MAX_SIDE: f64 = 8388608.0;
 // 2^26, the largest padding.
 const MAX_PADDING: f64 = 67108864.0;
 
-// How many of n circles or boxes there is room for.
+// The smaller of n and 64.
 pub fn room(n: usize) -> usize
     ensures { λ r. ⌜ r ≡ min n maxCircles ⌝ }
 {
@@ -43,20 +43,20 @@ pub fn too_many_regions(n: usize) -> bool
 }
 
 // Refusal 3.
-pub fn bad_point(p: Point) -> bool
+pub(crate) fn bad_point(p: Point) -> bool
     ensures { λ r. ⌜ r ≡ badPoint p ⌝ }
 {
     !(coordinate_in_range(p.x) && coordinate_in_range(p.y))
 }
 
-pub fn bad_centre(c: Circle) -> bool
+pub(crate) fn bad_centre(c: Circle) -> bool
     ensures { λ r. ⌜ r ≡ badCentre c ⌝ }
 {
     bad_point(c.center)
 }
 
 // Refusal 4.
-pub fn bad_radius(c: Circle) -> bool
+pub(crate) fn bad_radius(c: Circle) -> bool
     ensures { λ r. ⌜ r ≡ badRadius c ⌝ }
 {
     !Circle::radius_in_range(c.radius)
@@ -69,14 +69,14 @@ fn coordinate_in_range(x: f64) -> bool
 }
 
 // Refusal 6.
-pub fn bad_factor(x: f64) -> bool
+pub(crate) fn bad_factor(x: f64) -> bool
     ensures { λ r. ⌜ r ≡ badFactor x ⌝ }
 {
     !(0.0 <= x && x <= 1.0)
 }
 
 // Refusal 7.
-pub fn bad_side(r: Rectangle) -> bool
+pub(crate) fn bad_side(r: Rectangle) -> bool
     ensures { λ q. ⌜ q ≡ badSide r ⌝ }
 {
     !(side_in_range(r.width) && side_in_range(r.height))
@@ -89,7 +89,7 @@ fn side_in_range(x: f64) -> bool
 }
 
 // Refusal 8.
-pub fn bad_padding(x: f64) -> bool
+pub(crate) fn bad_padding(x: f64) -> bool
     ensures { λ r. ⌜ r ≡ badPadding x ⌝ }
 {
     !(0.0 <= x && x <= MAX_PADDING)

@@ -1,14 +1,11 @@
 // The numbers of a lent run, each kind in the front of an array. More records than there may be are refused (1), and nothing is written.
 ghost use mathlib.Core.Path.{_≡_};
-ghost use mathlib.Core.Bool.{cond};
 ghost use Prim.Native.Nat.{_≤_};
 ghost use lib.ListN.{length, take};
-ghost use Rattle.scope.specs.Refusals.{tooMany};
 ghost use Rattle.intake.specs.Limits.{maxCircles};
-ghost use Rattle.intake.specs.Columns.{xsOf, ysOf, radiiOf, widthsOf, heightsOf, overwritten};
+ghost use Rattle.intake.specs.Splits.{takenOf, countRefusal, Written, Split, RunSplit, SidesSplit};
 use crate::limits::MAX_CIRCLES;
 use crate::limits::too_many;
-use shapes::point::Point;
 use shapes::circle::Circle;
 use shapes::rectangle::Rectangle;
 
@@ -19,7 +16,8 @@ pub fn split(
     ys: &mut [f64; MAX_CIRCLES],
     radii: &mut [f64; MAX_CIRCLES],
 ) -> u8
-    ensures { λ r. ⌜ (r ≡ cond (tooMany (length (now (circles .entry)))) 1 0) × (now (xs .exit) ≡ cond (tooMany (length (now (circles .entry)))) (now (xs .entry)) (overwritten (xsOf (now (circles .entry))) (now (xs .entry)))) × (now (ys .exit) ≡ cond (tooMany (length (now (circles .entry)))) (now (ys .entry)) (overwritten (ysOf (now (circles .entry))) (now (ys .entry)))) × (now (radii .exit) ≡ cond (tooMany (length (now (circles .entry)))) (now (radii .entry)) (overwritten (radiiOf (now (circles .entry))) (now (radii .entry)))) ⌝ }
+    ensures { λ r. ⌜ RunSplit (now (circles .entry)) (now (xs .entry), now (ys .entry), now (radii .entry)) r
+        (now (xs .exit), now (ys .exit), now (radii .exit)) ⌝ }
 {
     let end = taken(circles.len());
     let mut i: usize = 0;
@@ -41,7 +39,7 @@ pub fn split_array(
     ys: &mut [f64; MAX_CIRCLES],
     radii: &mut [f64; MAX_CIRCLES],
 ) -> u8
-    ensures { λ r. ⌜ (r ≡ cond (tooMany n) 1 0) × (now (xs .exit) ≡ cond (tooMany n) (now (xs .entry)) (overwritten (xsOf (take n circles)) (now (xs .entry)))) × (now (ys .exit) ≡ cond (tooMany n) (now (ys .entry)) (overwritten (ysOf (take n circles)) (now (ys .entry)))) × (now (radii .exit) ≡ cond (tooMany n) (now (radii .entry)) (overwritten (radiiOf (take n circles)) (now (radii .entry)))) ⌝ }
+    ensures { λ r. ⌜ Split n (take n circles) (now (xs .entry), now (ys .entry), now (radii .entry)) r (now (xs .exit), now (ys .exit), now (radii .exit)) ⌝ }
 {
     if too_many(n) {
         return 1;
@@ -58,7 +56,7 @@ fn split_front(
     radii: &mut [f64],
 )
     requires { ⌜ (n ≤ maxCircles) × (length (now xs) ≡ maxCircles) × (length (now ys) ≡ maxCircles) × (length (now radii) ≡ maxCircles) ⌝ }
-    ensures { λ _. ⌜ (now (xs .exit) ≡ overwritten (xsOf (take n circles)) (now (xs .entry))) × (now (ys .exit) ≡ overwritten (ysOf (take n circles)) (now (ys .entry))) × (now (radii .exit) ≡ overwritten (radiiOf (take n circles)) (now (radii .entry))) ⌝ }
+    ensures { λ _. ⌜ Written (take n circles) (now (xs .entry), now (ys .entry), now (radii .entry)) (now (xs .exit), now (ys .exit), now (radii .exit)) ⌝ }
 {
     let mut i: usize = 0;
     while i < n {
@@ -76,7 +74,7 @@ pub fn split_sides(
     widths: &mut [f64; MAX_CIRCLES],
     heights: &mut [f64; MAX_CIRCLES],
 ) -> u8
-    ensures { λ r. ⌜ (r ≡ cond (tooMany (length (now (rectangles .entry)))) 1 0) × (now (widths .exit) ≡ cond (tooMany (length (now (rectangles .entry)))) (now (widths .entry)) (overwritten (widthsOf (now (rectangles .entry))) (now (widths .entry)))) × (now (heights .exit) ≡ cond (tooMany (length (now (rectangles .entry)))) (now (heights .entry)) (overwritten (heightsOf (now (rectangles .entry))) (now (heights .entry)))) ⌝ }
+    ensures { λ r. ⌜ SidesSplit (now (rectangles .entry)) (now (widths .entry), now (heights .entry)) r (now (widths .exit), now (heights .exit)) ⌝ }
 {
     let end = taken(rectangles.len());
     let mut i: usize = 0;
@@ -91,13 +89,13 @@ pub fn split_sides(
 
 // How many of n records are taken: all, or none where there are too many.
 pub(crate) fn taken(n: usize) -> usize
-    ensures { λ r. ⌜ r ≡ cond (tooMany n) 0 n ⌝ }
+    ensures { λ r. ⌜ r ≡ takenOf n ⌝ }
 {
     if too_many(n) { 0 } else { n }
 }
 
 pub(crate) fn count_refusal(n: usize) -> u8
-    ensures { λ r. ⌜ r ≡ cond (tooMany n) 1 0 ⌝ }
+    ensures { λ r. ⌜ r ≡ countRefusal n ⌝ }
 {
     if too_many(n) { 1 } else { 0 }
 }

@@ -11,7 +11,7 @@ use lib.ListN.{length, getD, set, replicate, length-set, length-replicate}
 use lib.Seq.{getD-set-same, getD-set-other, take-all, ext-getD}
 use Rattle.scope.specs.Runs.{tab, many, filled}
 use Rattle.promises.proofs.Runs.{length-tab, getD-tab, many-takes, many-leaves}
-use Rattle.intake.proofs.Loading.{over, over-next, over-all}
+use Rattle.intake.proofs.Overwriting.{over, over-next, over-all}
 use Rattle.packing.specs.Lists.{At}
 
 module _ {A : Type 0} (z : A) (f : ℕ → A) where

@@ -3,7 +3,7 @@ ghost use Prim.Native.Nat.{_≤_};
 use crate::read;
 use clustering;
 use clustering::Clusters;
-use intake::lent::blank;
+use intake::blanks::blank;
 use shapes::circle::Circle;
 
 // How many circles, their numbers, the answer.

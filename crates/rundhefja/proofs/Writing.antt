@@ -8,7 +8,7 @@ use mathlib.Core.List.{List}
 use lib.ListN.{length, getD, set, take, length-append, length-replicate, replicate, drop-of-length-le}
 use lib.Seq.{take-all, take-at}
 use Rattle.scope.specs.Runs.{filled}
-use Rattle.intake.proofs.Loading.{over, over-next}
+use Rattle.intake.proofs.Overwriting.{over, over-next}
 use Rattle.rundhefja.specs.Written.{written}
 
 module _ {A : Type 0} where

@@ -8,7 +8,7 @@ use Rattle.scope.specs.Runs.{tab}
 use Rattle.scope.specs.Limits.{circleCap}
 use Rattle.scope.specs.Packing.{noRectangle}
 use Rattle.intake.specs.Limits.{maxCircles}
-use Rattle.intake.proofs.Loading.{over}
+use Rattle.intake.proofs.Overwriting.{over}
 use Rattle.packing.specs.Sides.{boxAt}
 use Rattle.packing.proofs.Arrays.{over-tab-next, over-tab-all}
 use Rattle.packing.proofs.boxes_at.Statement.{statement}

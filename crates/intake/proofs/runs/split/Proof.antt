@@ -59,9 +59,10 @@ use Rattle.scope.specs.Links.{nowhere}
 use Rattle.intake.specs.Columns.{xsOf, ysOf, radiiOf}
 use Rattle.intake.proofs.Columns.{length-xs, length-ys, length-radii, x-at, y-at, radius-at}
 use Rattle.intake.specs.Limits.{maxCircles}
+use Rattle.intake.specs.Splits.{takenOf, countRefusal}
 use Rattle.intake.proofs.Lending.{refTo}
 use Rattle.intake.proofs.NumberArrays.{IsF, F64s, numbersTy, opens-array, closes-array}
-use Rattle.intake.proofs.TakenCalls.{takenOf, numberOf, Taken, Refusal, asks-taken, asks-refusal}
+use Rattle.intake.proofs.TakenCalls.{Taken, Refusal, asks-taken, asks-refusal}
 use Rattle.intake.proofs.Splitting.{splitOf, taken-few, column, column-length, column-within, column-next, column-all}
 use Rattle.intake.proofs.runs.taken.Symbol as taken-def
 use Rattle.intake.proofs.runs.taken.Symbol.{name as #taken}
@@ -154,16 +155,16 @@ module _ {M : Type 1} (𝓤 : URA M) (H : Heap 𝓤) (A : Atoms 𝓤) (W : Given
   Left xs′ ys′ rs′ = ‵ (Seen γ₁ xs′) ∷ ‵ (fbor κ₁ (Body (mem F64s) b₁ o₁ γ₁)) ∷ ‵ (Seen γ₂ ys′) ∷ ‵ (fbor κ₂ (Body (mem F64s) b₂ o₂ γ₂)) ∷ ‵ (Seen γ₃ rs′) ∷ ‵ (fbor κ₃ (Body (mem F64s) b₃ o₃ γ₃))
       ∷ ‵ Own₀ ∷ ‵ (flft κ₀ q₀) ∷ ‵ (flft κ₁ q₁) ∷ ‵ (flft κ₂ q₂) ∷ ‵ (flft κ₃ q₃) ∷ []
 
-  exits : (xs′ ys′ rs′ : List Float) → numberOf n < 2 ^ 8 → xs′ ≡ splitOf xsOf cs xs → ys′ ≡ splitOf ysOf cs ys → rs′ ≡ splitOf radiiOf cs rs → ent 𝓤 (⋆ 𝓤 H A (Left xs′ ys′ rs′)) (Post (vint w8 (numberOf n)))
+  exits : (xs′ ys′ rs′ : List Float) → countRefusal n < 2 ^ 8 → xs′ ≡ splitOf xsOf cs xs → ys′ ≡ splitOf ysOf cs ys → rs′ ≡ splitOf radiiOf cs rs → ent 𝓤 (⋆ 𝓤 H A (Left xs′ ys′ rs′)) (Post (vint w8 (countRefusal n)))
   exits xs′ ys′ rs′ small s₁ s₂ s₃ =
       qed W (Left xs′ ys′ rs′) ∵
-      suffices ! _ (ends-at 𝓤 H A split′.ended stayed (split′.clauses 𝓤 H A at-mem run) W (((κ₀, (κ₁, (κ₂, (κ₃, tt)))), (q₀, (q₁, (q₂, (q₃, tt)))), tt, (X₀, (X₁ xs, (X₂ ys, (X₃ rs, tt)))), at), tt) (vint w8 (numberOf n)) (numberOf n) (tt, (xs′, (ys′, (rs′, tt)))) (tt, (tt, (tt, (tt, tt))))) $
+      suffices ! _ (ends-at 𝓤 H A split′.ended stayed (split′.clauses 𝓤 H A at-mem run) W (((κ₀, (κ₁, (κ₂, (κ₃, tt)))), (q₀, (q₁, (q₂, (q₃, tt)))), tt, (X₀, (X₁ xs, (X₂ ys, (X₃ rs, tt)))), at), tt) (vint w8 (countRefusal n)) (countRefusal n) (tt, (xs′, (ys′, (rs′, tt)))) (tt, (tt, (tt, (tt, tt))))) $
       says ! (refl, s₁, s₂, s₃) $
       nothing ! $ move ! (11 ∷ 0 ∷ []) $ join ! $ move ! (10 ∷ 0 ∷ []) $ join ! $ move ! (9 ∷ 0 ∷ []) $ join ! $ move ! (8 ∷ 0 ∷ []) $ join ! $ frame ! $
       nothing ! $ move ! (5 ∷ 6 ∷ []) $ feqI ! (List Val) (v₃ ∷ []) (v₃ ∷ []) refl $ fjoin3 ! $ fjoin ! $
       move ! (3 ∷ 4 ∷ []) $ feqI ! (List Val) (v₂ ∷ []) (v₂ ∷ []) refl $ fjoin3 ! $ fjoin ! $
       move ! (1 ∷ 2 ∷ []) $ feqI ! (List Val) (v₁ ∷ []) (v₁ ∷ []) refl $ fjoin3 ! $ fjoin ! $
-      move ! (1 ∷ 0 ∷ []) $ fjoin ! $ frame ! $ owned ! u8 (Is u8) (uint-makes 𝓤 H A W w8) (numberOf n) _ (refl, small) $ done !
+      move ! (1 ∷ 0 ∷ []) $ fjoin ! $ frame ! $ owned ! u8 (Is u8) (uint-makes 𝓤 H A W w8) (countRefusal n) _ (refl, small) $ done !
 
   abbrev Upto : Type 0
   Upto = (i : ℕ) × (i ≤ end)

@@ -11,7 +11,7 @@ use Rattle.scope.specs.Links.{circle, nowhere}
 use Rattle.intake.specs.Limits.{maxCircles}
 use Rattle.intake.specs.Columns.{xsOf, ysOf, radiiOf}
 use Rattle.intake.proofs.Columns.{length-xs, length-ys, length-radii, x-at, y-at, radius-at}
-use Rattle.intake.proofs.Loading.{over}
+use Rattle.intake.proofs.Overwriting.{over}
 use Rattle.intake.proofs.Splitting.{front-next, front-all}
 use Rattle.intake.proofs.runs.split_front.Statement.{statement}
 use Rattle.intake.proofs.runs.split_front.Tie as tie

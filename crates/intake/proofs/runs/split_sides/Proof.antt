@@ -57,9 +57,10 @@ use Rattle.scope.specs.Packing.{noRectangle}
 use Rattle.intake.specs.Columns.{widthsOf, heightsOf}
 use Rattle.intake.proofs.Columns.{length-widths, length-heights, width-at, height-at}
 use Rattle.intake.specs.Limits.{maxCircles}
+use Rattle.intake.specs.Splits.{takenOf, countRefusal}
 use Rattle.intake.proofs.Lending.{refTo}
 use Rattle.intake.proofs.NumberArrays.{IsF, F64s, numbersTy, opens-array, closes-array}
-use Rattle.intake.proofs.TakenCalls.{takenOf, numberOf, Taken, Refusal, asks-taken, asks-refusal}
+use Rattle.intake.proofs.TakenCalls.{Taken, Refusal, asks-taken, asks-refusal}
 use Rattle.intake.proofs.Splitting.{splitOf, taken-few, column, column-length, column-within, column-next, column-all}
 use Rattle.intake.proofs.runs.taken.Symbol as taken-def
 use Rattle.intake.proofs.runs.taken.Symbol.{name as #taken}
@@ -140,15 +141,15 @@ module _ {M : Type 1} (𝓤 : URA M) (H : Heap 𝓤) (A : Atoms 𝓤) (W : Given
   Left ws′ hs′ = ‵ (Seen γ₁ ws′) ∷ ‵ (fbor κ₁ (Body (mem F64s) b₁ o₁ γ₁)) ∷ ‵ (Seen γ₂ hs′) ∷ ‵ (fbor κ₂ (Body (mem F64s) b₂ o₂ γ₂))
       ∷ ‵ Own₀ ∷ ‵ (flft κ₀ q₀) ∷ ‵ (flft κ₁ q₁) ∷ ‵ (flft κ₂ q₂) ∷ []
 
-  exits : (ws′ hs′ : List Float) → numberOf n < 2 ^ 8 → ws′ ≡ splitOf widthsOf cs ws → hs′ ≡ splitOf heightsOf cs hs → ent 𝓤 (⋆ 𝓤 H A (Left ws′ hs′)) (Post (vint w8 (numberOf n)))
+  exits : (ws′ hs′ : List Float) → countRefusal n < 2 ^ 8 → ws′ ≡ splitOf widthsOf cs ws → hs′ ≡ splitOf heightsOf cs hs → ent 𝓤 (⋆ 𝓤 H A (Left ws′ hs′)) (Post (vint w8 (countRefusal n)))
   exits ws′ hs′ small s₁ s₂ =
       qed W (Left ws′ hs′) ∵
-      suffices ! _ (ends-at 𝓤 H A split′.ended stayed (split′.clauses 𝓤 H A at-mem run) W (((κ₀, (κ₁, (κ₂, tt))), (q₀, (q₁, (q₂, tt))), tt, (X₀, (X₁ ws, (X₂ hs, tt))), at), tt) (vint w8 (numberOf n)) (numberOf n) (tt, (ws′, (hs′, tt))) (tt, (tt, (tt, tt)))) $
+      suffices ! _ (ends-at 𝓤 H A split′.ended stayed (split′.clauses 𝓤 H A at-mem run) W (((κ₀, (κ₁, (κ₂, tt))), (q₀, (q₁, (q₂, tt))), tt, (X₀, (X₁ ws, (X₂ hs, tt))), at), tt) (vint w8 (countRefusal n)) (countRefusal n) (tt, (ws′, (hs′, tt))) (tt, (tt, (tt, tt)))) $
       says ! (refl, s₁, s₂) $
       nothing ! $ move ! (8 ∷ 0 ∷ []) $ join ! $ move ! (7 ∷ 0 ∷ []) $ join ! $ move ! (6 ∷ 0 ∷ []) $ join ! $ frame ! $
       nothing ! $ move ! (3 ∷ 4 ∷ []) $ feqI ! (List Val) (v₂ ∷ []) (v₂ ∷ []) refl $ fjoin3 ! $ fjoin ! $
       move ! (1 ∷ 2 ∷ []) $ feqI ! (List Val) (v₁ ∷ []) (v₁ ∷ []) refl $ fjoin3 ! $ fjoin ! $
-      move ! (1 ∷ 0 ∷ []) $ fjoin ! $ frame ! $ owned ! u8 (Is u8) (uint-makes 𝓤 H A W w8) (numberOf n) _ (refl, small) $ done !
+      move ! (1 ∷ 0 ∷ []) $ fjoin ! $ frame ! $ owned ! u8 (Is u8) (uint-makes 𝓤 H A W w8) (countRefusal n) _ (refl, small) $ done !
 
   abbrev Upto : Type 0
   Upto = (i : ℕ) × (i ≤ end)

@@ -5,7 +5,7 @@ use native.Mathlib.Omega.{arith}
 use borrow.Author.Needs.{needs}
 use mathlib.Core.Path.{_≡_, refl, _∙_}
 use lib.ListN.{length, length-set}
-use Rattle.intake.proofs.Loading.{over}
+use Rattle.intake.proofs.Overwriting.{over}
 use Rattle.rundhefja.proofs.Writing.{over-step, over-written}
 use Rattle.rundhefja.proofs.files.write_bytes.Statement.{statement}
 use Rattle.rundhefja.proofs.files.write_bytes.Tie as tie

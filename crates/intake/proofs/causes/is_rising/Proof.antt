@@ -6,8 +6,8 @@ use lib.ListN.{length, drop}
 use borrow.Author.Tests.{lt-ltb, le-ltb}
 use Rattle.scope.specs.Refusals.{rising}
 use Rattle.intake.proofs.Rising.{rising-step, rising-end}
-use Rattle.intake.proofs.refusals.is_rising.Statement.{statement}
-use Rattle.intake.proofs.refusals.is_rising.Tie as tie
+use Rattle.intake.proofs.causes.is_rising.Statement.{statement}
+use Rattle.intake.proofs.causes.is_rising.Tie as tie
 
 abbrev Inv-loop : tie.InvT-loop
 Inv-loop masks i₀ i = (i ≤ length masks) × (rising masks ≡ rising (drop i masks))

@@ -1,8 +1,8 @@
 -- `blank` meets its contract.
 use mathlib.Core.Path.{refl}
 use lib.Ieee.{ofBits}
-use Rattle.intake.proofs.lent.blank.Statement.{statement}
-use Rattle.intake.proofs.lent.blank.Tie as tie
+use Rattle.intake.proofs.blanks.blank.Statement.{statement}
+use Rattle.intake.proofs.blanks.blank.Tie as tie
 
 returns : tie.Need-returns
 unfolding ofBits

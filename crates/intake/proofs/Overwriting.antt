@@ -33,24 +33,3 @@ module _ {A : Type 0} where
         | yes h ↦ rw (min-eq-left h, take-all (length xs) xs (omega arith), take-all w xs h, drop-replicate (length xs) w z h)
         | no h ↦ let g : w ≤ length xs = omega arith in rw (min-eq-right g, length-take-le w xs g, drop-replicate w w z (omega arith))
       ]
-
-  drop-all : (n : ℕ) (l : List A) → length l ≤ n → drop n l ≡ []
-  drop-all zero [] h = refl
-  drop-all (suc n) [] h = refl
-  drop-all zero (x ∷ l) h = absurd (omega arith)
-  drop-all (suc n) (x ∷ l) h = drop-all n l (omega arith)
-
-  -- a count cut at the array's length takes the same elements, and leaves the same
-  pub take-room : (n w : ℕ) (l : List A) → length l ≡ w → take (min n w) l ≡ take n l
-  take-room n w l e =
-      elim (decLe n w) [
-        | yes h ↦ rw (min-eq-left h)
-        | no h ↦ let g : w ≤ n = omega arith in rw (min-eq-right g, take-all w l (omega arith), take-all n l (omega arith))
-      ]
-
-  pub drop-room : (n w : ℕ) (l : List A) → length l ≡ w → drop (min n w) l ≡ drop n l
-  drop-room n w l e =
-      elim (decLe n w) [
-        | yes h ↦ rw (min-eq-left h)
-        | no h ↦ let g : w ≤ n = omega arith in rw (min-eq-right g, drop-all w l (omega arith), drop-all n l (omega arith))
-      ]

@@ -1,0 +1,49 @@
+-- A run of records taken apart into arrays: 0 and each column over the front of its array, or 1 and the arrays as they were, where there are too many records.
+-- Arrays stand in the order of their columns: the centres' x, the centres' y, the radii; of boxes the widths, the heights.
+use Prim.Native.Nat.{ℕ}
+use mathlib.Core.Path.{_≡_}
+use mathlib.Core.Bool.{cond}
+use mathlib.Core.List.{List}
+use lib.Ieee.{Float}
+use lib.ListN.{length}
+use Rattle.shapes.specs.declared.circle.Circle.{Circle}
+use Rattle.shapes.specs.declared.rectangle.Rectangle.{Rectangle}
+use Rattle.scope.specs.Refusals.{tooMany}
+use Rattle.intake.specs.Columns.{xsOf, ysOf, radiiOf, widthsOf, heightsOf, overwritten}
+
+-- how many of n records are taken, and the number that comes back
+abbrev pub takenOf : ℕ → ℕ
+takenOf n = cond (tooMany n) 0 n
+
+abbrev pub countRefusal : ℕ → ℕ
+countRefusal n = cond (tooMany n) 1 0
+
+-- an array after the column of n records
+abbrev pub loaded : {A : Type 0} → ℕ → List A → List A → List A
+loaded n column before = cond (tooMany n) before (overwritten column before)
+
+abbrev pub Two : Type 0
+Two = List Float × List Float
+
+abbrev pub Three : Type 0
+Three = List Float × List Float × List Float
+
+-- the columns of the circles over the arrays, however many there are
+abbrev pub Written : List Circle → (before after : Three) → Type 0
+Written cs before after =
+    (after .0 ≡ overwritten (xsOf cs) (before .0)) × (after .1 ≡ overwritten (ysOf cs) (before .1)) × (after .2 ≡ overwritten (radiiOf cs) (before .2))
+
+-- the number that comes back for n circles, and the arrays
+abbrev pub Split : ℕ → List Circle → (before : Three) → ℕ → (after : Three) → Type 0
+Split n cs before r after =
+    (r ≡ countRefusal n)
+    × (after .0 ≡ loaded n (xsOf cs) (before .0)) × (after .1 ≡ loaded n (ysOf cs) (before .1)) × (after .2 ≡ loaded n (radiiOf cs) (before .2))
+
+-- of a whole run
+abbrev pub RunSplit : List Circle → (before : Three) → ℕ → (after : Three) → Type 0
+RunSplit cs = Split (length cs) cs
+
+abbrev pub SidesSplit : List Rectangle → (before : Two) → ℕ → (after : Two) → Type 0
+SidesSplit rects before r after =
+    (r ≡ countRefusal (length rects))
+    × (after .0 ≡ loaded (length rects) (widthsOf rects) (before .0)) × (after .1 ≡ loaded (length rects) (heightsOf rects) (before .1))
