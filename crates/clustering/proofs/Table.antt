@@ -91,6 +91,10 @@ joined-marks false false = refl
 abbrev pub along : (ℕ → ℕ → Bool) → (ℕ → Bool) → ℕ → ℕ → ℕ → ℕ → Bool
 along f p i j a b = f a b || (eqb a i && (ltb b j && p b))
 
+-- row i whole
+abbrev pub joined : (ℕ → ℕ → Bool) → (ℕ → Bool) → ℕ → ℕ → ℕ → Bool
+joined f p i a b = f a b || (eqb a i && p b)
+
 abbrev pub down : (ℕ → ℕ → Bool) → (ℕ → ℕ → Bool) → ℕ → ℕ → ℕ → Bool
 down f g i a b = f a b || (ltb a i && g a b)
 
@@ -121,6 +125,9 @@ module _ (n : ℕ) (f : ℕ → ℕ → Bool) (p : ℕ → Bool) where
       (λ hj. rw (s .cells i j hi hj, k hj, eq-eqb i i refl, le-ltb j j (omega arith), or-false (f i j), lt-ltb j (j + 1) (omega arith)) (joined-marks (f i j) (p j)))
       (λ a b ha hb d. along-other i j a b d) s
 
+  pub along-end : (i j : ℕ) {m : List (List ℕ)} → n ≤ j → Shows n m (along f p i j) → Shows n m (joined f p i)
+  along-end i j h s = shows-same (joined f p i) (λ a b ha hb. rw (lt-ltb b j (omega arith))) s
+
 module _ (n : ℕ) (f g : ℕ → ℕ → Bool) where
   pub down-start : {m : List (List ℕ)} → Shows n m f → Shows n m (down f g 0)
   down-start s = shows-same (down f g 0) (λ a b ha hb. rw (le-ltb a 0 (omega arith), or-false (f a b))) s
@@ -140,6 +147,29 @@ module _ (n : ℕ) (f g : ℕ → ℕ → Bool) where
       → Shows n m (along (down f g i) p i j) → Shows n m (down f g (i + 1))
   down-taken i j p hj t s = shows-same (down f g (i + 1)) (λ a b ha hb. down-take i j a b p (omega arith) (t b)) s
 
+  down-join : (i a b : ℕ) (p : ℕ → Bool) → p b ≡ g i b → joined (down f g i) p i a b ≡ down f g (i + 1) a b
+  down-join i a b p t =
+      elim (ℕ-discrete a i) [
+        | yes e ↦ rw (e, eq-eqb i i refl, le-ltb i i (omega arith), lt-ltb i (i + 1) (omega arith), t, or-false (f i b))
+        | no e ↦ rw (ne-eqb a i e, or-false (down f g i a b)) (rw (ltb-more a i e))
+      ]
+
+  pub down-joined : (i : ℕ) (p : ℕ → Bool) {m : List (List ℕ)} → ((b : ℕ) → p b ≡ g i b) → Shows n m (joined (down f g i) p i) → Shows n m (down f g (i + 1))
+  down-joined i p t s = shows-same (down f g (i + 1)) (λ a b ha hb. down-join i a b p (t b)) s
+
+  -- rows from i to r in which g does not pass anywhere
+  pub down-past : (i r : ℕ) {m : List (List ℕ)} → i ≤ r → ((a : ℕ) → i ≤ a → a < r → (b : ℕ) → g a b ≡ false) → Shows n m (down f g i) → Shows n m (down f g r)
+  down-past i r l t s = shows-same (down f g r) (λ a b ha hb. row a b) s
+    where
+      row : (a b : ℕ) → down f g i a b ≡ down f g r a b
+      row a b = elim (decLt a i) [
+        | yes h ↦ rw (lt-ltb a i h, lt-ltb a r (omega arith))
+        | no h ↦ elim (decLt a r) [
+          | yes k ↦ rw (t a (omega arith) k b, and-false (ltb a i), and-false (ltb a r))
+          | no k ↦ rw (le-ltb a i (omega arith), le-ltb a r (omega arith))
+        ]
+      ]
+
   pub down-left : (i : ℕ) {m : List (List ℕ)} → ((b : ℕ) → g i b ≡ false) → Shows n m (down f g i) → Shows n m (down f g (i + 1))
   down-left i t s = shows-same (down f g (i + 1)) (λ a b ha hb. down-skip i a b (t b)) s
 
@@ -151,21 +181,9 @@ module _ (n : ℕ) (f g : ℕ → ℕ → Bool) where
 abbrev pub through : (ℕ → ℕ → Bool) → ℕ → ℕ → ℕ → Bool
 through f k a b = f a k && f k b
 
-absorbed : (y l z : Bool) → y || (l && (z && y)) ≡ y
-absorbed true l z = refl
-absorbed false true true = refl
-absorbed false true false = refl
-absorbed false false z = refl
-
 module _ (n : ℕ) (f : ℕ → ℕ → Bool) (k : ℕ) (hk : k < n) where
-  row-kept : (i j : ℕ) → along f (f k) i j k j ≡ f k j
-  row-kept i j = rw (le-ltb j j (omega arith), and-false (eqb k i), or-false (f k j))
-
   column-kept : (i : ℕ) → down f (through f k) i i k ≡ f i k
   column-kept i = rw (le-ltb i i (omega arith), or-false (f i k))
-
-  pub row-mark : (i j : ℕ) {m : List (List ℕ)} → j < n → Shows n m (along f (f k) i j) → cell m k j ≡ mark (f k j)
-  row-mark i j hj s = s .cells k j hk hj ∙ ap mark (row-kept i j)
 
   column-marked : (i : ℕ) {m : List (List ℕ)} → i < n → Shows n m (down f (through f k) i) → (cell m i k ≡ 0 → ⊥) → f i k ≡ true
   column-marked i {m} hi s h = sym (column-kept i) ∙ marked-cell (down f (through f k) i i k) (cell m i k) (s .cells i k hi hk) h
@@ -173,14 +191,10 @@ module _ (n : ℕ) (f : ℕ → ℕ → Bool) (k : ℕ) (hk : k < n) where
   column-clear : (i : ℕ) {m : List (List ℕ)} → i < n → Shows n m (down f (through f k) i) → cell m i k ≡ 0 → f i k ≡ false
   column-clear i {m} hi s h = sym (column-kept i) ∙ clear-cell (down f (through f k) i i k) (cell m i k) (s .cells i k hi hk) h
 
-  row-same : (i b : ℕ) → down f (through f k) i k b ≡ f k b
-  row-same i b = absorbed (f k b) (ltb k i) (f k k)
-
-  -- row i of the pass: where i is marked in column k, row k has been added to it
-  pub row-passed : (i j : ℕ) {m₀ m : List (List ℕ)} → i < n → n ≤ j → Shows n m₀ (down f (through f k) i) → (cell m₀ i k ≡ 0 → ⊥)
-      → Shows n m (along (down f (through f k) i) (down f (through f k) i k) i j) → Shows n m (down f (through f k) (i + 1))
-  row-passed i j hi hj s h t =
-      down-taken n f (through f k) i j (down f (through f k) i k) hj (λ b. row-same i b ∙ ap (λ (x : Bool). x && f k b) (sym (column-marked i hi s h))) t
+  -- row i of the pass: where i is marked in column k, row k has been joined to it
+  pub row-passed : (i : ℕ) {m₀ m : List (List ℕ)} → i < n → Shows n m₀ (down f (through f k) i) → (cell m₀ i k ≡ 0 → ⊥)
+      → Shows n m (joined (down f (through f k) i) (f k) i) → Shows n m (down f (through f k) (i + 1))
+  row-passed i hi s h t = down-joined n f (through f k) i (f k) (λ b. ap (λ (x : Bool). x && f k b) (sym (column-marked i hi s h))) t
 
   pub row-skipped : (i : ℕ) {m : List (List ℕ)} → i < n → Shows n m (down f (through f k) i) → cell m i k ≡ 0 → Shows n m (down f (through f k) (i + 1))
   row-skipped i hi s h = down-left n f (through f k) i (λ b. ap (λ (x : Bool). x && f k b) (column-clear i hi s h)) s
@@ -224,10 +238,10 @@ module _ (room : ℕ) (p : ℕ → Bool) where
         rest = λ k l g. let other : k ≡ j → ⊥ = λ e. absurd (omega arith) in rw (getD-set-other row j k 1 0 other) (s .rest k (omega arith) g);
       }
 
-  pub row-left : (j : ℕ) (row : List ℕ) → j < room → p j ≡ false → RowSoFar room j p row → RowSoFar room (j + 1) p row
-  row-left j row h t s =
+  pub row-past : (j r : ℕ) (row : List ℕ) → j ≤ r → r ≤ room → ((k : ℕ) → j ≤ k → k < r → p k ≡ false) → RowSoFar room j p row → RowSoFar room r p row
+  row-past j r row l h t s =
       record {
         long = s .long;
-        first = λ k l. elim (ℕ-discrete k j) [ yes e ↦ rw (e, t) (s .rest j (omega arith) h) | no e ↦ s .first k (omega arith) ];
-        rest = λ k l g. s .rest k (omega arith) g;
+        first = λ k b. elim (decLt k j) [ yes a ↦ s .first k a | no a ↦ rw (t k (omega arith) b) (s .rest k (omega arith) (omega arith)) ];
+        rest = λ k b g. s .rest k (omega arith) g;
       }

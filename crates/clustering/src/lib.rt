@@ -21,7 +21,7 @@ ghost use Rattle.intake.specs.Limits.{maxCircles};
 ghost use Rattle.intake.specs.Columns.{circlesOf};
 ghost use Rattle.intake.specs.CauseWords.{front};
 ghost use Rattle.clustering.specs.Answers.{grouped, NumbersByChains, firstGrouping, shownGrouping};
-ghost use Rattle.clustering.specs.Table.{Row, Shows};
+ghost use Rattle.clustering.specs.Table.{Row, Shows, FirstFrom};
 use geometry::circle::absolute;
 use geometry::point::root_or_nan;
 use intake::causes::number_of;
@@ -212,39 +212,57 @@ fn link_circles(m: &mut Table, xs: &[f64], ys: &[f64], radii: &[f64])
     }
 }
 
-// Links the circles of a region with each other. A row is joined whole, past column n too, where nothing is looked at: so it is a few wide operations.
+// Links the circles of a region with each other.
 fn link(m: &mut Table, n: usize, mask: u64)
     requires { ⌜ n ≤ maxCircles ⌝ }
     ensures { λ _. ⌜ ((f : ℕ → ℕ → Bool) → Shows n (now (m .entry)) f → Shows n (now (m .exit)) (λ i j. f i j || (bit mask i && bit mask j))) ⌝ }
 {
-    let row = row_of(mask, n);
-    let mut i: usize = 0;
+    let row = row_of(mask);
+    let mut i = next_of(mask, 0);
     while i < n {
-        if holds(mask, i) {
-            let mut j: usize = 0;
-            while j < MAX_CIRCLES {
-                m[i][j] = m[i][j] | row[j];
-                j += 1;
-            }
-        }
-        i += 1;
+        join(m, i, &row);
+        i = next_of(mask, i + 1);
     }
 }
 
-// A mark for each of n circles that the region holds.
-fn row_of(mask: u64, n: usize) -> [u8; MAX_CIRCLES]
-    requires { ⌜ n ≤ maxCircles ⌝ }
-    ensures { λ r. ⌜ Row n r (bit mask) ⌝ }
+// A mark for each circle that the region holds.
+fn row_of(mask: u64) -> [u8; MAX_CIRCLES]
+    ensures { λ r. ⌜ Row maxCircles r (bit mask) ⌝ }
 {
     let mut row = [0u8; MAX_CIRCLES];
-    let mut j: usize = 0;
-    while j < n {
-        if holds(mask, j) {
-            row[j] = 1;
-        }
-        j += 1;
+    let mut j = next_of(mask, 0);
+    while j < MAX_CIRCLES {
+        row[j] = 1;
+        j = next_of(mask, j + 1);
     }
     row
+}
+
+// The first circle of a mask at or past a place, 64 if there is none.
+fn next_of(mask: u64, from: usize) -> usize
+    requires { ⌜ from ≤ maxCircles ⌝ }
+    ensures { λ r. ⌜ FirstFrom (bit mask) from maxCircles r ⌝ }
+{
+    if from >= 64 {
+        return 64;
+    }
+    let rest = mask >> from;
+    if rest == 0 {
+        return 64;
+    }
+    from + u64::trailing_zeros(rest) as usize
+}
+
+// Joins a row of marks to row i, past column n too, where nothing is looked at: so it is a few wide operations.
+fn join(m: &mut Table, i: usize, row: &[u8; MAX_CIRCLES])
+    requires { ⌜ i < maxCircles ⌝ }
+    ensures { λ _. ⌜ ((n : ℕ) (f : ℕ → ℕ → Bool) (p : ℕ → Bool) → n ≤ maxCircles → i < n → Row n (now (row .entry)) p → Shows n (now (m .entry)) f → Shows n (now (m .exit)) (λ a b. f a b || (eqb a i && p b))) ⌝ }
+{
+    let mut j: usize = 0;
+    while j < MAX_CIRCLES {
+        m[i][j] = m[i][j] | row[j];
+        j += 1;
+    }
 }
 
 // Finite and not at most the tolerance. An infinity or a NaN less itself is a NaN.
@@ -308,21 +326,18 @@ fn crossing(d: f64, a: f64, b: f64) -> bool
 
 // ---- closure and numbers
 
-// Warshall's closure of the first n rows and columns, in place. Rows are joined whole, as in `link`.
+// Warshall's closure of the first n rows and columns, in place. Row k does not change while it is joined to the others, so a copy of it will do.
 fn close(m: &mut Table, n: usize)
     requires { ⌜ n ≤ maxCircles ⌝ }
     ensures { λ _. ⌜ ((t : Marks) → Shows n (now (m .entry)) (at t) → Shows n (now (m .exit)) (at (closure n t))) ⌝ }
 {
     let mut k: usize = 0;
     while k < n {
+        let row = m[k];
         let mut i: usize = 0;
         while i < n {
             if m[i][k] != 0 {
-                let mut j: usize = 0;
-                while j < MAX_CIRCLES {
-                    m[i][j] = m[i][j] | m[k][j];
-                    j += 1;
-                }
+                join(m, i, &row);
             }
             i += 1;
         }
