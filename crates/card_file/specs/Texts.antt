@@ -1,5 +1,5 @@
 -- A text in a buffer of bytes, and what it is to put more behind it.
-use Prim.Native.Nat.{ℕ, _+_}
+use Prim.Native.Nat.{ℕ, _+_, _≤_}
 use mathlib.Core.Path.{_≡_}
 use mathlib.Core.List.{List, [], _++_}
 use lib.ListN.{length, getD, take}
@@ -12,6 +12,10 @@ use Rattle.scope.specs.Print.{line}
 
 abbrev pub maxText : ℕ
 maxText = 4096
+
+-- the first n bytes are the text, and the rest is 0
+abbrev pub IsText : List ℕ → ℕ → List ℕ → Type 0
+IsText text n bytes = (n ≡ length text) × (bytes ≡ filled maxText 0 text) × (n ≤ maxText)
 
 -- the buffer begins with the text and is 0 behind it, where the next byte goes
 pub record Holds (text : List ℕ) (at : ℕ) (buffer : List ℕ) : Type 0 where

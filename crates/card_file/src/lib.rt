@@ -4,13 +4,10 @@ pub mod fields;
 mod lines;
 mod words;
 
-ghost use mathlib.Core.Path.{_≡_};
-ghost use Prim.Native.Nat.{_≤_};
-ghost use lib.ListN.{length, take};
-ghost use Rattle.scope.specs.Runs.{filled};
+ghost use lib.ListN.{take};
 ghost use Rattle.scope.specs.Layout.{layout};
 ghost use Rattle.scope.specs.Print.{printed, cardText};
-ghost use Rattle.card_file.specs.Texts.{maxText};
+ghost use Rattle.card_file.specs.Texts.{IsText};
 ghost use Rattle.card_file.specs.Unused.{RestIsBlank};
 use crate::cards::Card;
 use crate::cards::read_card;
@@ -32,7 +29,7 @@ pub struct Text {
 
 // The very bytes that program `card` prints for an input.
 pub fn card_text(input: &[u8]) -> Text
-    ensures { λ r. ⌜ (r .length ≡ length (cardText (now (input .entry)))) × (r .bytes ≡ filled maxText 0 (cardText (now (input .entry)))) × (r .length ≤ maxText) ⌝ }
+    ensures { λ r. ⌜ IsText (cardText (now (input .entry))) (r .length) (r .bytes) ⌝ }
 {
     if input.len() > MAX_INPUT {
         return refused_text(2);
@@ -48,7 +45,8 @@ pub fn card_text(input: &[u8]) -> Text
 // The layout of a card that was read.
 fn layout_text(card: Card) -> Text
     requires { ⌜ RestIsBlank card ⌝ }
-    ensures { λ r. ⌜ (r .length ≡ length (printed (layout (take (card .n) (card .circles)) (card .factor) (take (card .m) (card .masks)) (take (card .m) (card .areas))))) × (r .bytes ≡ filled maxText 0 (printed (layout (take (card .n) (card .circles)) (card .factor) (take (card .m) (card .masks)) (take (card .m) (card .areas))))) × (r .length ≤ maxText) ⌝ }
+    ensures { λ r. ⌜ IsText (printed (layout (take (card .n) (card .circles)) (card .factor) (take (card .m) (card .masks)) (take (card .m) (card .areas))))
+        (r .length) (r .bytes) ⌝ }
 {
     let n = card.n;
     let circles = card.circles;

@@ -3,11 +3,10 @@ ghost use mathlib.Core.Path.{_≡_};
 ghost use mathlib.Core.List.{[], _∷_, _++_};
 ghost use Prim.Native.Nat.{_+_, _*_, _/_, _%_, _^_, _≤_, _<_};
 ghost use lib.ListN.{length};
-ghost use Rattle.scope.specs.Runs.{filled};
 ghost use Rattle.scope.specs.Text.{bytes};
 ghost use Rattle.scope.specs.Print.{decimal, hexDigit, sixteenDigits, float, line, printed, refusedText};
 ghost use Rattle.intake.specs.Limits.{maxCircles};
-ghost use Rattle.card_file.specs.Texts.{maxText, Put, linesOf, layoutOf};
+ghost use Rattle.card_file.specs.Texts.{maxText, IsText, Put, linesOf, layoutOf};
 use crate::MAX_TEXT;
 use crate::Text;
 use bits::bits_of;
@@ -16,7 +15,7 @@ use shapes::circle::Circle;
 
 // What a refusal prints.
 pub(crate) fn refused_text(number: u8) -> Text
-    ensures { λ r. ⌜ (r .length ≡ length (refusedText number)) × (r .bytes ≡ filled maxText 0 (refusedText number)) × (r .length ≤ maxText) ⌝ }
+    ensures { λ r. ⌜ IsText (refusedText number) (r .length) (r .bytes) ⌝ }
 {
     let mut bytes = [0u8; MAX_TEXT];
     let end = put_count(&mut bytes, 0, b"refused ", number as u64);
@@ -34,7 +33,7 @@ pub(crate) fn printed(
     padding: f64,
 ) -> Text
     requires { ⌜ n ≤ maxCircles ⌝ }
-    ensures { λ r. ⌜ (r .length ≡ length (printed (layoutOf circles n count numbers moved padding))) × (r .bytes ≡ filled maxText 0 (printed (layoutOf circles n count numbers moved padding))) × (r .length ≤ maxText) ⌝ }
+    ensures { λ r. ⌜ IsText (printed (layoutOf circles n count numbers moved padding)) (r .length) (r .bytes) ⌝ }
 {
     let mut bytes = [0u8; MAX_TEXT];
     let circles_end = put_count(&mut bytes, 0, b"circles ", n as u64);

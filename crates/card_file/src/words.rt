@@ -14,7 +14,8 @@ pub(crate) fn word_at(bytes: &[u8], at: usize) -> u64
 // Four bytes, from the k-th after a place.
 fn half_at(bytes: &[u8], at: usize, k: usize) -> u64
     requires { ⌜ k < 8 ⌝ }
-    ensures { λ r. ⌜ (r ≡ getD (drop at (now (bytes .entry))) k 0 + 256 * (getD (drop at (now (bytes .entry))) (k + 1) 0 + 256 * (getD (drop at (now (bytes .entry))) (k + 2) 0 + 256 * getD (drop at (now (bytes .entry))) (k + 3) 0))) × (r < 2 ^ 32) ⌝ }
+    ensures { λ r. ⌜ (let b = drop at (now (bytes .entry)) in
+        (r ≡ getD b k 0 + 256 * (getD b (k + 1) 0 + 256 * (getD b (k + 2) 0 + 256 * getD b (k + 3) 0))) × (r < 2 ^ 32)) ⌝ }
 {
     byte_at(bytes, at, k)
         + byte_at(bytes, at, k + 1) * 256

@@ -51,7 +51,8 @@ pub extern "C" fn rundhefja_pack(rectangles: &[Rectangle], padding: f64) -> Pack
 
 #[no_mangle]
 pub extern "C" fn rundhefja_container(circles: &mut [Circle], container: Rectangle) -> Placed
-    ensures { λ r. ⌜ (r ≡ placedOf (contained (now (circles .entry)) container)) × (now (circles .exit) ≡ contained (now (circles .entry)) container .circles) ⌝ }
+    ensures { λ r. ⌜ (r ≡ placedOf (contained (now (circles .entry)) container))
+        × (now (circles .exit) ≡ contained (now (circles .entry)) container .circles) ⌝ }
 {
     normalize_layout_with_container(circles, container)
 }
@@ -63,7 +64,9 @@ pub extern "C" fn rundhefja_layout(
     masks: &[u64],
     areas: &[f64],
 ) -> Result
-    ensures { λ r. ⌜ (resultOf r ≡ layout (now (circles .entry)) factor (now (masks .entry)) (now (areas .entry)) .result) × (now (circles .exit) ≡ layout (now (circles .entry)) factor (now (masks .entry)) (now (areas .entry)) .circles) × (r .refusal ≡ 0 → Promises bound (now (circles .entry)) (regions (now (masks .entry)) (now (areas .entry))) (resultOf r) (now (circles .exit))) ⌝ }
+    ensures { λ r. ⌜ (resultOf r ≡ layout (now (circles .entry)) factor (now (masks .entry)) (now (areas .entry)) .result)
+        × (now (circles .exit) ≡ layout (now (circles .entry)) factor (now (masks .entry)) (now (areas .entry)) .circles)
+        × (r .refusal ≡ 0 → Promises bound (now (circles .entry)) (regions (now (masks .entry)) (now (areas .entry))) (resultOf r) (now (circles .exit))) ⌝ }
 {
     normalize_layout_with_clusters(circles, factor, masks, areas)
 }
