@@ -34,7 +34,44 @@ fn float(bytes: &[u8]) -> f64 {
     f64::from_bits(number(bytes))
 }
 
-// Checks run front to back: head cut, tag, count, length, body cut. Then come the values.
+// What a field holds, and where its body stands in the file.
+pub struct Field {
+    pub value: Value,
+    pub start: usize,
+    pub length: usize,
+}
+
+pub enum Value {
+    Factor(f64),
+    Circle([f64; 3]),
+    Region(u64, f64),
+}
+
+// The field at a place, whatever stands before it. Checks run front to back: head cut, tag, length, body cut. A place at or past the end is a cut head.
+pub fn field(file: &[u8], at: usize) -> Result<Field, usize> {
+    let left = file.get(at..).unwrap_or(&[]);
+    if left.len() < 3 {
+        return Err(11);
+    }
+    let length = match left[0] {
+        1 => 8,
+        2 => 24,
+        3 => 16,
+        _ => return Err(9),
+    };
+    if number(&left[1..3]) != length as u64 {
+        return Err(10);
+    }
+    let body = left[3..].get(..length).ok_or(11usize)?;
+    let value = match left[0] {
+        1 => Value::Factor(float(body)),
+        2 => Value::Circle([float(&body[..8]), float(&body[8..16]), float(&body[16..])]),
+        _ => Value::Region(number(&body[..8]), float(&body[8..])),
+    };
+    Ok(Field { value, start: at + 3, length })
+}
+
+// Checks run front to back: head cut, tag, count, and the field's own. Then come the values.
 fn read(file: &[u8]) -> Result<Card, usize> {
     if file.is_empty() {
         return Err(9);
@@ -62,21 +99,14 @@ fn read(file: &[u8]) -> Result<Card, usize> {
         if tag == 3 && card.regions.len() == 2048 {
             return Err(2);
         }
-        let length = number(&file[at + 1..at + 3]) as usize;
-        if length != [8, 24, 16][tag as usize - 1] {
-            return Err(10);
-        }
-        if file.len() - at - 3 < length {
-            return Err(11);
-        }
-        let body = &file[at + 3..at + 3 + length];
-        match tag {
-            1 => card.factor = float(body),
-            2 => card.circles.push([float(&body[..8]), float(&body[8..16]), float(&body[16..])]),
-            _ => card.regions.push((number(&body[..8]), float(&body[8..]))),
+        let field = field(file, at)?;
+        match field.value {
+            Value::Factor(factor) => card.factor = factor,
+            Value::Circle(circle) => card.circles.push(circle),
+            Value::Region(mask, area) => card.regions.push((mask, area)),
         }
         last = tag;
-        at += 3 + length;
+        at = field.start + field.length;
     }
     Ok(card)
 }

@@ -9,13 +9,13 @@ const LEAST_RADIUS: f64 = 9.5367431640625e-7;
 
 // ---- the file
 
-struct Field {
+pub struct Field {
     tag: u8,
-    length: usize,
+    pub length: usize,
     body: Vec<u8>,
 }
 
-fn field(tag: u8, words: &[u64]) -> Field {
+pub fn field(tag: u8, words: &[u64]) -> Field {
     let body: Vec<u8> = words.iter().flat_map(|w| w.to_le_bytes()).collect();
     Field { tag, length: body.len(), body }
 }
@@ -27,7 +27,7 @@ fn fields(card: &Card) -> Vec<Field> {
     all
 }
 
-fn bytes(fields: &[Field]) -> Vec<u8> {
+pub fn bytes(fields: &[Field]) -> Vec<u8> {
     let mut file = Vec::new();
     for f in fields {
         file.push(f.tag);
@@ -316,7 +316,7 @@ fn damage(random: &mut Random, fields: &mut Vec<Field>) {
 }
 
 // Tags, lengths and order.
-fn damage_shape(random: &mut Random, fields: &mut Vec<Field>) {
+pub fn damage_shape(random: &mut Random, fields: &mut Vec<Field>) {
     let any = random.below(fields.len() as u64) as usize;
     let last = fields.len() - 1;
     match random.below(6) {

@@ -1,15 +1,17 @@
-// Writes records of inputs and the answers of the patched Rust, for the program `replay`:
+// Writes records of inputs and the answers of the patched Rust, for the program `replay` and for tests/lent:
 //     oracle KIND COUNT SEED          COUNT random inputs of a kind
-//     oracle 10 COUNT SEED small      short cards alone
+//     oracle KIND COUNT SEED small    of kinds 10 and 11: short cards alone
 //     oracle 10 COUNT SEED stats      cards, and on standard error how often each case came up
 //     oracle files NAME...            a record of kind 10 for each of the card files
 //     oracle text                     what program `card` prints for the card file on standard input
 // A record is a kind byte, a two-byte length and a body: the input, then the answer; all numbers little-endian. Refusals are worked out here from document
-// 01's table, since the Rust asserts or takes what comes. Either zero is written as 0, and every NaN as one.
+// 01's table, since the Rust asserts or takes what comes; so are the fields of kind 11, as the Rust has no card file. Either zero is written as 0, and every NaN
+// as one.
 #[path = "../../target/oracle/eunoia.rs"]
 mod eunoia;
 mod card;
 mod cards;
+mod fields;
 
 use eunoia::*;
 use std::collections::BTreeMap;
@@ -479,12 +481,41 @@ fn card_record(file: &[u8], record: &mut Record) -> card::Outcome {
     outcome
 }
 
+// The length of the file, the place, the file; the refusal, the tag, the factor, the circle, the mask and the area, where the body starts and how long it is.
+fn field_record(file: &[u8], at: usize, record: &mut Record) {
+    let (mut refusal, mut tag, mut factor, mut circle, mut region, mut start, mut length) = (0, 0, 0.0, [0.0; 3], (0, 0.0), 0, 0);
+    match card::field(file, at) {
+        Err(number) => refusal = number,
+        Ok(field) => {
+            (start, length) = (field.start, field.length);
+            match field.value {
+                card::Value::Factor(read) => (tag, factor) = (1, read),
+                card::Value::Circle(read) => (tag, circle) = (2, read),
+                card::Value::Region(mask, area) => (tag, region) = (3, (mask, area)),
+            }
+        }
+    }
+    record.short(file.len());
+    record.word(at as u64);
+    record.0.extend_from_slice(file);
+    record.byte(refusal);
+    record.byte(tag);
+    for x in [factor, circle[0], circle[1], circle[2]] {
+        record.result(x);
+    }
+    record.word(region.0);
+    record.result(region.1);
+    record.word(start as u64);
+    record.word(length as u64);
+}
+
 fn write_random(words: &[String], out: &mut impl Write) {
     let number = |i: usize| words.get(i).and_then(|w| w.parse::<u64>().ok()).expect("oracle KIND COUNT SEED");
     let (kind, count, seed) = (number(0), number(1), number(2));
     let asked = |option: &str| words[3..].iter().any(|w| w == option);
     let mut random = Random(seed.wrapping_mul(0x1000_0000_01b3) ^ kind);
     let mut tally = cards::Tally::default();
+    let mut places = fields::Places::default();
     for _ in 0..count {
         let mut record = Record::default();
         match kind {
@@ -498,6 +529,10 @@ fn write_random(words: &[String], out: &mut impl Write) {
             8 => pack_record(&mut random, &mut record),
             9 => container_record(&mut random, &mut record),
             10 => tally.count(&card_record(&cards::file(&mut random, asked("small")), &mut record)),
+            11 => {
+                let at = places.next(&mut random, asked("small"));
+                field_record(&places.file, at, &mut record);
+            }
             _ => panic!("no such kind"),
         }
         record.write(kind as u8, out);

@@ -1,0 +1,401 @@
+/* Answers the records of tests/oracle through the C interface and prints for each kind how many agree, as program `replay` does for the calls by value. Fails
+ * where one differs or is malformed.
+ *
+ * A record is a kind byte, a two-byte length and a body: the input, then the answer; all numbers little-endian. What is lent lies between guards. Besides the
+ * answers this holds what no contract sees: a guard, what a call only reads, and all that was lent to a call that refuses are as they were, to the byte. */
+#include <inttypes.h>
+#include <stdio.h>
+#include <string.h>
+
+#include "rundhefja.h"
+
+#define SIGN UINT64_C(0x8000000000000000)
+#define INFINITE UINT64_C(0x7ff0000000000000)
+#define NOT_A_NUMBER UINT64_C(0x7ff8000000000000)
+
+/* ---- a body, read from its start */
+
+typedef struct {
+    const uint8_t *bytes;
+    size_t length, at;
+} record;
+
+/* A number of so many bytes. What lies past the end counts as 0; such a body has not `ended`. */
+static uint64_t take(record *r, size_t size) {
+    uint64_t n = 0;
+    size_t i;
+    for (i = 0; i < size; i++, r->at++) {
+        if (r->at < r->length) n |= (uint64_t)r->bytes[r->at] << (8 * i);
+    }
+    return n;
+}
+
+static size_t left(const record *r) { return r->at < r->length ? r->length - r->at : 0; }
+
+static int ended(const record *r) { return r->at == r->length; }
+
+static double take_double(record *r) {
+    uint64_t b = take(r, 8);
+    double x;
+    memcpy(&x, &b, sizeof x);
+    return x;
+}
+
+static rundhefja_point take_point(record *r) {
+    rundhefja_point p;
+    p.x = take_double(r);
+    p.y = take_double(r);
+    return p;
+}
+
+static rundhefja_circle take_circle(record *r) {
+    rundhefja_circle c;
+    c.center = take_point(r);
+    c.radius = take_double(r);
+    return c;
+}
+
+static rundhefja_rectangle take_rectangle(record *r) {
+    rundhefja_rectangle b;
+    b.center = take_point(r);
+    b.width = take_double(r);
+    b.height = take_double(r);
+    return b;
+}
+
+static rundhefja_bounds take_bounds(record *r) {
+    rundhefja_bounds b;
+    b.x_min = take_double(r);
+    b.x_max = take_double(r);
+    b.y_min = take_double(r);
+    b.y_max = take_double(r);
+    return b;
+}
+
+/* ---- answers held to the body's */
+
+/* As the records have it: either zero as 0, every NaN as one. */
+static uint64_t bits(double x) {
+    uint64_t b;
+    memcpy(&b, &x, sizeof b);
+    return x == 0 ? 0 : x != x ? NOT_A_NUMBER : b;
+}
+
+static int is_byte(record *r, size_t n) { return take(r, 1) == n; }
+
+static int is_word(record *r, uint64_t n) { return take(r, 8) == n; }
+
+static int is_double(record *r, double x) { return is_word(r, bits(x)); }
+
+static int is_circle(record *r, rundhefja_circle c) { return is_double(r, c.center.x) && is_double(r, c.center.y) && is_double(r, c.radius); }
+
+static int is_rectangle(record *r, rundhefja_rectangle b) {
+    return is_double(r, b.center.x) && is_double(r, b.center.y) && is_double(r, b.width) && is_double(r, b.height);
+}
+
+static int is_bounds(record *r, rundhefja_bounds b) { return is_double(r, b.x_min) && is_double(r, b.x_max) && is_double(r, b.y_min) && is_double(r, b.y_max); }
+
+static int is_grouping(record *r, rundhefja_clusters_result c) {
+    size_t i;
+    if (!is_byte(r, c.refusal) || !is_byte(r, c.count)) return 0;
+    for (i = 0; i < RUNDHEFJA_MAX_CIRCLES; i++) {
+        if (!is_byte(r, c.numbers[i])) return 0;
+    }
+    return 1;
+}
+
+/* ---- runs that are lent */
+
+/* A guard has room for four circles or three rectangles, and is NaNs. */
+enum { GUARD = 96, ROOM = 65536 };
+
+typedef struct {
+    union {
+        uint8_t bytes[GUARD + ROOM + GUARD];
+        uint64_t aligned;
+    } now;
+    uint8_t was[GUARD + ROOM + GUARD];
+    size_t size;
+} lent;
+
+static lent circles, rectangles, masks, areas, file, text;
+
+static void *run(lent *l) { return l->now.bytes + GUARD; }
+
+static void lend(lent *l, const void *from, size_t size) {
+    memset(l->now.bytes, 0xff, GUARD + size + GUARD);
+    memcpy(run(l), from, size);
+    memcpy(l->was, l->now.bytes, GUARD + size + GUARD);
+    l->size = size;
+}
+
+/* As `lend`, for doubles. A NaN is lent as a signalling one with digits of its own: no answer looks at them, and only a run that is left alone keeps them. */
+static void lend_doubles(lent *l, const void *from, size_t size) {
+    uint8_t marked[ROOM];
+    uint64_t b;
+    size_t i;
+    memcpy(marked, from, size);
+    for (i = 0; i + sizeof b <= size; i += sizeof b) {
+        memcpy(&b, marked + i, sizeof b);
+        if ((b & ~SIGN) > INFINITE) b = (b & SIGN) + INFINITE + i + 1;
+        memcpy(marked + i, &b, sizeof b);
+    }
+    lend(l, marked, size);
+}
+
+/* What a body has next. 0 where it has less. */
+static int lend_next(void (*how)(lent *, const void *, size_t), lent *l, record *r, size_t size) {
+    if (left(r) < size) return 0;
+    how(l, r->bytes + r->at, size);
+    r->at += size;
+    return 1;
+}
+
+/* Whether all but the first so many bytes of a run is as it was, and both guards. */
+static int kept(const lent *l, size_t rewritten) {
+    const size_t rest = GUARD + rewritten;
+    return memcmp(l->now.bytes, l->was, GUARD) == 0 && memcmp(l->now.bytes + rest, l->was + rest, l->size - rewritten + GUARD) == 0;
+}
+
+static rundhefja_circle circle_at(size_t i) {
+    rundhefja_circle c;
+    memcpy(&c, circles.now.bytes + GUARD + i * sizeof c, sizeof c);
+    return c;
+}
+
+/* ---- circles and boxes by value */
+
+/* Two points; the refusal, the distance. */
+static int distance(record *r) {
+    rundhefja_point p = take_point(r), q = take_point(r);
+    rundhefja_length d = rundhefja_point_distance(p, q);
+    return is_byte(r, d.refusal) && is_double(r, d.value) && ended(r);
+}
+
+/* Two circles; the refusal, the distance, whether the first contains the second, whether they intersect. */
+static int two_circles(record *r) {
+    rundhefja_circle a = take_circle(r), b = take_circle(r);
+    rundhefja_length d = rundhefja_distance(a, b);
+    rundhefja_test c = rundhefja_contains(a, b), i = rundhefja_intersects(a, b);
+    if (c.refusal != d.refusal || i.refusal != d.refusal) return 0;
+    return is_byte(r, d.refusal) && is_double(r, d.value) && is_byte(r, c.value) && is_byte(r, i.value) && ended(r);
+}
+
+/* A circle, a point; the refusal, whether the circle contains the point. */
+static int circle_and_point(record *r) {
+    rundhefja_circle c = take_circle(r);
+    rundhefja_test t = rundhefja_contains_point(c, take_point(r));
+    return is_byte(r, t.refusal) && is_byte(r, t.value) && ended(r);
+}
+
+/* Two boxes and a radius; the union, whether and what they share, width, height and area, the lifted radius, the boxes of the circle and of the rectangle. */
+static int boxes(record *r) {
+    rundhefja_bounds a = take_bounds(r), b = take_bounds(r);
+    double radius = take_double(r);
+    rundhefja_overlap o = rundhefja_bounds_intersection(a, b);
+    rundhefja_circle c;
+    rundhefja_rectangle d;
+    c.center.x = a.x_min;
+    c.center.y = a.x_max;
+    c.radius = radius;
+    d.center.x = b.x_min;
+    d.center.y = b.x_max;
+    d.width = b.y_min;
+    d.height = b.y_max;
+    return is_bounds(r, rundhefja_bounds_union(a, b)) && is_byte(r, !o.empty) && is_bounds(r, o.bounds) && is_double(r, rundhefja_bounds_width(a))
+           && is_double(r, rundhefja_bounds_height(a)) && is_double(r, rundhefja_bounds_area(a))
+           && is_double(r, rundhefja_circle_from_params(a.x_min, a.x_max, radius).radius) && is_bounds(r, rundhefja_circle_bounds(c))
+           && is_bounds(r, rundhefja_rectangle_bounds(d)) && ended(r);
+}
+
+/* How many rectangles; the refusal, the columns. */
+static int columns(record *r) {
+    rundhefja_count c = rundhefja_columns(take(r, 1));
+    return is_byte(r, c.refusal) && is_byte(r, c.value) && ended(r);
+}
+
+/* ---- runs */
+
+/* How many circles, the circles; the clusters. */
+static int clusters(record *r) {
+    size_t n = take(r, 1);
+    rundhefja_clusters_result c;
+    if (!lend_next(lend_doubles, &circles, r, n * sizeof(rundhefja_circle))) return 0;
+    c = rundhefja_clusters(run(&circles), n);
+    return is_grouping(r, c) && ended(r) && kept(&circles, 0);
+}
+
+/* How many circles, masks and areas; the tolerance, the masks, the areas; the clusters. */
+static int area_clusters(record *r) {
+    size_t n = take(r, 1), m = take(r, 2), a = take(r, 2);
+    double tolerance = take_double(r);
+    rundhefja_clusters_result c;
+    if (!lend_next(lend, &masks, r, m * sizeof(uint64_t)) || !lend_next(lend_doubles, &areas, r, a * sizeof(double))) return 0;
+    c = rundhefja_area_clusters(n, run(&masks), m, run(&areas), a, tolerance);
+    return is_grouping(r, c) && ended(r) && kept(&masks, 0) && kept(&areas, 0);
+}
+
+static int is_blank(rundhefja_rectangle b) { return bits(b.center.x) == 0 && bits(b.center.y) == 0 && bits(b.width) == 0 && bits(b.height) == 0; }
+
+/* How many rectangles, the padding, the rectangles; the refusal, and where there is none the rectangles placed. What the answer does not use is 0. */
+static int pack(record *r) {
+    size_t n = take(r, 1), i;
+    double padding = take_double(r);
+    rundhefja_pack_result p;
+    if (!lend_next(lend_doubles, &rectangles, r, n * sizeof(rundhefja_rectangle))) return 0;
+    p = rundhefja_pack(run(&rectangles), n, padding);
+    if (!is_byte(r, p.refusal)) return 0;
+    for (i = 0; i < RUNDHEFJA_MAX_CIRCLES; i++) {
+        if (p.refusal == 0 && i < n ? !is_rectangle(r, p.rectangles[i]) : !is_blank(p.rectangles[i])) return 0;
+    }
+    return ended(r) && kept(&rectangles, 0);
+}
+
+/* How many circles, the container, the circles; the refusal, the container and, where they fit a layout, the circles. */
+static int container(record *r) {
+    size_t n = take(r, 1), i;
+    rundhefja_rectangle given = take_rectangle(r);
+    rundhefja_container_result c;
+    if (!lend_next(lend_doubles, &circles, r, n * sizeof(rundhefja_circle))) return 0;
+    c = rundhefja_container(run(&circles), n, given);
+    if (!is_byte(r, c.refusal) || !is_rectangle(r, c.container)) return 0;
+    for (i = 0; n <= RUNDHEFJA_MAX_CIRCLES && i < n; i++) {
+        if (!is_circle(r, circle_at(i))) return 0;
+    }
+    return ended(r) && kept(&circles, c.refusal == 0 ? circles.size : 0);
+}
+
+/* ---- the card file */
+
+/* The length of the file, the place, the file; the field, and its body's place and length. */
+static int field(record *r) {
+    size_t length = take(r, 2), at = take(r, 8);
+    rundhefja_field_result f;
+    if (!lend_next(lend, &file, r, length)) return 0;
+    f = rundhefja_field(run(&file), length, at);
+    return is_byte(r, f.refusal) && is_byte(r, f.tag) && is_double(r, f.factor) && is_circle(r, f.circle) && is_word(r, f.mask) && is_double(r, f.area)
+           && is_word(r, f.body_start) && is_word(r, f.body_length) && ended(r) && kept(&file, 0);
+}
+
+/* A card's parts, with room for one circle and one region too many. */
+typedef struct {
+    double factor;
+    size_t circles, regions;
+    rundhefja_circle circle[RUNDHEFJA_MAX_CIRCLES + 1];
+    uint64_t mask[RUNDHEFJA_MAX_REGIONS + 1];
+    double area[RUNDHEFJA_MAX_REGIONS + 1];
+} parts;
+
+/* Takes the lent file apart, field by field: 0 or the refusal. A field knows no order and no count, so these are seen to here. The first circle or region too
+ * many ends the card; it is counted, for the layout to refuse. */
+static uint8_t take_apart(parts *p) {
+    const uint8_t *bytes = run(&file);
+    size_t at = 0;
+    uint8_t last = 0;
+    int full = 0;
+    memset(p, 0, sizeof *p);
+    if (file.size == 0) return 9;
+    while (at < file.size && !full) {
+        rundhefja_field_result f = rundhefja_field(bytes, file.size, at);
+        uint8_t tag = bytes[at];
+        if (file.size - at < 3) return f.refusal;
+        if ((tag == 1 && last != 0) || (tag == 2 && last != 1 && last != 2) || (tag == 3 && last == 0)) return 9;
+        full = (tag == 2 && p->circles == RUNDHEFJA_MAX_CIRCLES) || (tag == 3 && p->regions == RUNDHEFJA_MAX_REGIONS);
+        if (f.refusal != 0 && !full) return f.refusal;
+        if (tag == 1) p->factor = f.factor;
+        if (tag == 2) p->circle[p->circles++] = f.circle;
+        if (tag == 3) {
+            p->mask[p->regions] = f.mask;
+            p->area[p->regions++] = f.area;
+        }
+        last = tag;
+        at += 3 + f.body_length;
+    }
+    return 0;
+}
+
+/* Writes what program `card` has to print for the lent file, from its parts laid out where they are lent. Gives how long it is; 0 where a byte was not kept, or
+ * an answer has what it does not use. */
+static size_t text_of_parts(char *out) {
+    static parts p;
+    uint8_t refusal = take_apart(&p);
+    size_t i, n = 0;
+    rundhefja_layout_result l;
+    if (refusal == 0) {
+        lend_doubles(&circles, p.circle, p.circles * sizeof *p.circle);
+        lend(&masks, p.mask, p.regions * sizeof *p.mask);
+        lend_doubles(&areas, p.area, p.regions * sizeof *p.area);
+        l = rundhefja_layout(run(&circles), p.circles, p.factor, run(&masks), p.regions, run(&areas), p.regions);
+        refusal = l.refusal;
+        if (!kept(&circles, refusal == 0 ? circles.size : 0) || !kept(&masks, 0) || !kept(&areas, 0)) return 0;
+        if (refusal != 0 && (l.count != 0 || l.moved != 0 || bits(l.padding) != 0)) return 0;
+        for (i = refusal == 0 ? p.circles : 0; i < RUNDHEFJA_MAX_CIRCLES; i++) {
+            if (l.numbers[i] != 0) return 0;
+        }
+    }
+    if (refusal != 0) return sprintf(out, "refused %u\n", refusal);
+    n += sprintf(out, "circles %zu clusters %zu moved %016" PRIx64 " padding %016" PRIx64 "\n", p.circles, l.count, l.moved, bits(l.padding));
+    for (i = 0; i < p.circles; i++) {
+        rundhefja_circle c = circle_at(i);
+        n += sprintf(out + n, "%zu %u %016" PRIx64 " %016" PRIx64 " %016" PRIx64 "\n", i, l.numbers[i], bits(c.center.x), bits(c.center.y), bits(c.radius));
+    }
+    return n;
+}
+
+/* The length of the file, the file; the text. It is held twice: to the text that the library gives, and to that of the parts. */
+static int card(record *r) {
+    static const uint8_t blank[RUNDHEFJA_MAX_TEXT];
+    static char by_parts[2 * RUNDHEFJA_MAX_TEXT];
+    size_t length = take(r, 2);
+    if (!lend_next(lend, &file, r, length)) return 0;
+    lend(&text, blank, sizeof blank);
+    length = rundhefja_card_text(run(&file), file.size, run(&text), text.size);
+    if (length != left(r) || length > text.size || memcmp(run(&text), r->bytes + r->at, length) != 0 || !kept(&text, length)) return 0;
+    return text_of_parts(by_parts) == length && memcmp(by_parts, r->bytes + r->at, length) == 0 && kept(&file, 0);
+}
+
+/* ---- the list */
+
+static const struct {
+    const char *name;
+    int (*agrees)(record *);
+} kinds[] = {
+    {"malformed", NULL},
+    {"distance", distance},
+    {"two circles", two_circles},
+    {"circle and point", circle_and_point},
+    {"clusters of circles", clusters},
+    {"clusters by areas", area_clusters},
+    {"boxes and lift", boxes},
+    {"columns", columns},
+    {"packing", pack},
+    {"container", container},
+    {"whole cards", card},
+    {"fields", field},
+};
+
+enum { KINDS = sizeof kinds / sizeof *kinds };
+
+static unsigned long seen[KINDS], agreed[KINDS];
+
+static int print(size_t kind) {
+    printf("%s %lu of %lu\n", kinds[kind].name, agreed[kind], seen[kind]);
+    return agreed[kind] != seen[kind];
+}
+
+/* A record of no known kind, or one that is cut, is malformed: kind 0. */
+int main(void) {
+    static uint8_t body[ROOM];
+    uint8_t head[3];
+    size_t got, kind;
+    int wrong = 0;
+    while ((got = fread(head, 1, sizeof head, stdin)) > 0) {
+        record r = {body, 0, 0};
+        r.length = head[1] + 256 * (size_t)head[2];
+        kind = got == sizeof head && fread(body, 1, r.length, stdin) == r.length && head[0] < KINDS ? head[0] : 0;
+        seen[kind]++;
+        agreed[kind] += kind > 0 && kinds[kind].agrees(&r);
+    }
+    for (kind = 1; kind < KINDS; kind++) wrong |= print(kind);
+    return wrong | print(0);
+}
