@@ -7,14 +7,12 @@ ghost use Prim.Native.Nat.{ℕ, _<_, _≤_};
 ghost use lib.Dec.{eqb};
 ghost use lib.Ieee.Scale.{finite};
 ghost use lib.ListN.{length};
-ghost use Rattle.scope.specs.Numbers.{_+ᶠ_, _-ᶠ_, _<ᶠ_, _≤ᶠ_, abs};
+ghost use Rattle.scope.specs.Numbers.{_≤ᶠ_};
 ghost use Rattle.scope.specs.Runs.{bit, least};
-ghost use Rattle.scope.specs.Distance.{distance};
 ghost use Rattle.scope.specs.Links.{regions, circle, overlap, linkedByRegions, linkedByCircles};
 ghost use Rattle.scope.specs.Tolerance.{tolerance};
 ghost use Rattle.scope.specs.Closure.{Marks, at, closure};
 ghost use Rattle.scope.specs.Groups.{clusters, plainClusters, clustersOf, grouping, areaGrouping, plainGrouping};
-ghost use Rattle.scope.specs.Offset.{magnitude};
 ghost use Rattle.promises.proofs.Closure.{Equivalence};
 ghost use Rattle.promises.proofs.AfterRefusal.{refusedGrouping};
 ghost use Rattle.intake.specs.Limits.{maxCircles};
@@ -23,7 +21,8 @@ ghost use Rattle.intake.specs.CauseWords.{front};
 ghost use Rattle.clustering.specs.Answers.{grouped, NumbersByChains, firstGrouping, shownGrouping};
 ghost use Rattle.clustering.specs.Table.{Row, Shows, FirstFrom};
 use geometry::circle::absolute;
-use geometry::point::root_or_nan;
+use geometry::lengths::magnitude;
+use geometry::lengths::meets;
 use intake::causes::number_of;
 use intake::causes::of_circles;
 use intake::causes::of_count;
@@ -32,9 +31,9 @@ use intake::limits::MAX_CIRCLES;
 use intake::masks::holds;
 use intake::runs::split;
 use intake::runs::split_array;
+use shapes::circle::Circle;
 use shapes::extremes::maximum;
 use shapes::point::Point;
-use shapes::circle::Circle;
 
 // A refusal's number or 0, how many clusters there are, and the cluster of each circle. What is not used is 0.
 #[repr(C)]
@@ -292,36 +291,11 @@ fn at(xs: &[f64], ys: &[f64], radii: &[f64], i: usize) -> Circle
 fn overlap(a: Circle, b: Circle) -> bool
     ensures { λ r. ⌜ r ≡ overlap a b ⌝ }
 {
-    let d = centre_distance(a, b);
-    crossing(d, a.radius, b.radius)
-        || within(d, b.radius, a.radius)
-        || within(d, a.radius, b.radius)
-}
-
-fn centre_distance(a: Circle, b: Circle) -> f64
-    ensures { λ r. ⌜ r ≡ distance (a .center) (b .center) ⌝ }
-{
-    magnitude(a.center.x - b.center.x, a.center.y - b.center.y)
-}
-
-fn magnitude(x: f64, y: f64) -> f64
-    ensures { λ r. ⌜ r ≡ magnitude x y ⌝ }
-{
-    root_or_nan(x * x + y * y)
-}
-
-// Of circles whose centres are d apart: whether one lies inside the other.
-fn within(d: f64, inner: f64, outer: f64) -> bool
-    ensures { λ r. ⌜ r ≡ d +ᶠ inner ≤ᶠ outer ⌝ }
-{
-    d + inner <= outer
-}
-
-// Whether their edges cross.
-fn crossing(d: f64, a: f64, b: f64) -> bool
-    ensures { λ r. ⌜ r ≡ (d <ᶠ a +ᶠ b) && (abs (a -ᶠ b) <ᶠ d) ⌝ }
-{
-    d < a + b && absolute(a - b) < d
+    meets(
+        magnitude(a.center.x - b.center.x, a.center.y - b.center.y),
+        a.radius,
+        b.radius,
+    )
 }
 
 // ---- closure and numbers

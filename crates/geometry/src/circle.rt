@@ -13,13 +13,15 @@ ghost use Rattle.scope.specs.Distance.{
 ghost use Rattle.scope.specs.Numbers.{abs};
 ghost use Rattle.scope.specs.Refusals.{pairRefusal, circlePointRefusal};
 ghost use Rattle.geometry.specs.Answers.{measured, decided};
+use crate::lengths::crossing;
+use crate::lengths::within;
 use crate::point::Measured;
 use crate::point::raw_distance;
 use intake::causes::number_of;
 use intake::causes::of_circle_and_point;
 use intake::causes::of_pair;
-use shapes::point::Point;
 use shapes::circle::Circle;
+use shapes::point::Point;
 
 // Yes or no, or a refusal's number.
 pub enum Decided {
@@ -96,7 +98,7 @@ fn raw_circle_distance(a: Circle, b: Circle) -> f64
 fn raw_contains(a: Circle, b: Circle) -> bool
     ensures { λ r. ⌜ r ≡ contains a b ⌝ }
 {
-    raw_distance(a.center, b.center) + b.radius <= a.radius
+    within(raw_distance(a.center, b.center), b.radius, a.radius)
 }
 
 fn raw_contains_point(c: Circle, p: Point) -> bool
@@ -108,8 +110,7 @@ fn raw_contains_point(c: Circle, p: Point) -> bool
 fn raw_intersects(a: Circle, b: Circle) -> bool
     ensures { λ r. ⌜ r ≡ intersects a b ⌝ }
 {
-    let d = raw_distance(a.center, b.center);
-    d < a.radius + b.radius && absolute(a.radius - b.radius) < d
+    crossing(raw_distance(a.center, b.center), a.radius, b.radius)
 }
 
 // The size of a number, its sign taken off.

@@ -5,6 +5,7 @@ ghost use Rattle.rounding.specs.Root.{root};
 ghost use Rattle.scope.specs.Distance.{distance, distanceAnswer};
 ghost use Rattle.scope.specs.Refusals.{pointsRefusal};
 ghost use Rattle.geometry.specs.Answers.{measured};
+use crate::lengths::magnitude;
 use intake::causes::number_of;
 use intake::causes::of_points;
 use root::answers::Root;
@@ -33,13 +34,10 @@ fn points_refusal(p: Point, q: Point) -> u8
     number_of(of_points(p, q))
 }
 
-// The root of the sum of the squared differences, each step rounded.
 pub(crate) fn raw_distance(p: Point, q: Point) -> f64
     ensures { λ r. ⌜ r ≡ distance p q ⌝ }
 {
-    let x = p.x - q.x;
-    let y = p.y - q.y;
-    root_or_nan(x * x + y * y)
+    magnitude(p.x - q.x, p.y - q.y)
 }
 
 // The root, and NaN where there is none.

@@ -7,9 +7,9 @@ ghost use mathlib.Core.List.{List};
 ghost use Prim.Native.Nat.{ℕ, _<_, _≤_, _+_, _-_, _^_};
 ghost use lib.Dec.{eqb};
 ghost use lib.ListN.{length};
-ghost use Rattle.scope.specs.Numbers.{_+ᶠ_, _-ᶠ_, _<ᶠ_, _≤ᶠ_, nought, abs};
+ghost use Rattle.scope.specs.Numbers.{_≤ᶠ_, nought};
 ghost use Rattle.scope.specs.Runs.{bit, many, least};
-ghost use Rattle.scope.specs.Distance.{distance, contains};
+ghost use Rattle.scope.specs.Distance.{contains};
 ghost use Rattle.scope.specs.Links.{Region, regions, circle, overlap};
 ghost use Rattle.scope.specs.Tolerance.{tolerance};
 ghost use Rattle.scope.specs.Offset.{
@@ -39,12 +39,13 @@ ghost use Rattle.scope.specs.Offset.{
 };
 ghost use Rattle.intake.specs.Columns.{circlesOf, Lifted};
 ghost use Rattle.layout.specs.Offsets.{numbered, moved, parentAt, ParentsOf, moment};
-use geometry::circle::absolute;
-use geometry::point::root_or_nan;
+use geometry::lengths::magnitude;
+use geometry::lengths::meets;
+use geometry::lengths::within;
 use intake::masks::holds;
+use shapes::circle::Circle;
 use shapes::extremes::maximum;
 use shapes::point::Point;
-use shapes::circle::Circle;
 
 // Where a child is moved to, if it is.
 enum Moved {
@@ -206,50 +207,17 @@ fn find_parents(masks: &[u64], areas: &[f64], tol: f64, parents: &mut [u16]) -> 
     any
 }
 
-// ---- tests of two circles
+// ---- the move
 
-fn centre_distance(a: Circle, b: Circle) -> f64
-    ensures { λ r. ⌜ r ≡ distance (a .center) (b .center) ⌝ }
-{
-    magnitude(a.center.x - b.center.x, a.center.y - b.center.y)
-}
-
-// Of circles whose centres are d apart: whether one lies inside the other.
-fn within(d: f64, inner: f64, outer: f64) -> bool
-    ensures { λ r. ⌜ r ≡ d +ᶠ inner ≤ᶠ outer ⌝ }
-{
-    d + inner <= outer
-}
-
-// Whether their edges cross.
-fn crossing(d: f64, a: f64, b: f64) -> bool
-    ensures { λ r. ⌜ r ≡ (d <ᶠ a +ᶠ b) && (abs (a -ᶠ b) <ᶠ d) ⌝ }
-{
-    d < a + b && absolute(a - b) < d
-}
-
+// By the distance of the centres. A circle that touches the edge from inside is inside.
 fn contains(a: Circle, b: Circle) -> bool
     ensures { λ r. ⌜ r ≡ contains a b ⌝ }
 {
-    within(centre_distance(a, b), b.radius, a.radius)
-}
-
-// Whether their edges cross, or one lies inside the other. All by one distance: it is the same from either circle.
-fn overlap(a: Circle, b: Circle) -> bool
-    ensures { λ r. ⌜ r ≡ overlap a b ⌝ }
-{
-    let d = centre_distance(a, b);
-    crossing(d, a.radius, b.radius)
-        || within(d, b.radius, a.radius)
-        || within(d, a.radius, b.radius)
-}
-
-// ---- the move
-
-fn magnitude(x: f64, y: f64) -> f64
-    ensures { λ r. ⌜ r ≡ magnitude x y ⌝ }
-{
-    root_or_nan(x * x + y * y)
+    within(
+        magnitude(a.center.x - b.center.x, a.center.y - b.center.y),
+        b.radius,
+        a.radius,
+    )
 }
 
 // Of the circle's box.
@@ -366,7 +334,7 @@ fn at(xs: &[f64], ys: &[f64], radii: &[f64], i: usize) -> Circle
     }
 }
 
-// Whether circle k is another than the two, and overlaps c.
+// Whether circle k is another than the two, and overlaps c: their edges cross, or one lies inside the other.
 fn in_the_way(c: Circle, other: Circle, k: usize, p: usize, i: usize) -> bool
     ensures { λ r. ⌜ r ≡ (not (eqb k i) && not (eqb k p) && overlap c other) ⌝ }
 {
@@ -376,7 +344,11 @@ fn in_the_way(c: Circle, other: Circle, k: usize, p: usize, i: usize) -> bool
     if k == p {
         return false;
     }
-    overlap(c, other)
+    meets(
+        magnitude(c.center.x - other.center.x, c.center.y - other.center.y),
+        c.radius,
+        other.radius,
+    )
 }
 
 fn blocked(xs: &[f64], ys: &[f64], radii: &[f64], p: usize, i: usize, c: Circle) -> bool

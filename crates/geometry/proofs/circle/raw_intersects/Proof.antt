@@ -1,4 +1,4 @@
--- `raw_intersects` meets its contract: below the sum of the radii, and above their difference.
+-- `raw_intersects` meets its contract.
 use borrow.Author.Needs.{needs}
 use Rattle.scope.specs.Distance.{intersects}
 use Rattle.geometry.proofs.circle.raw_intersects.Statement.{statement}
@@ -7,19 +7,12 @@ use Rattle.geometry.proofs.circle.raw_intersects.Tie as tie
 raw-distance-requires : tie.Need-raw-distance-requires
 raw-distance-requires c κs = search needs
 
-absolute-requires : tie.Need-absolute-requires
-absolute-requires c κs = search needs
+crossing-requires : tie.Need-crossing-requires
+crossing-requires c κs = search needs
 
 returns : tie.Need-returns
 unfolding intersects
-returns c =
-    let s = c .before .before .before in
-    rw (← s .before .before .before .raw-distance .ensures, s .if1 .taken, ← c .absolute .ensures)
-
-returns-2 : tie.Need-returns-2
-unfolding intersects
-returns-2 c = rw (← c .before .before .before .raw-distance .ensures, c .if1 .left)
+returns c = rw (c .crossing .ensures, c .before .raw-distance .ensures)
 
 pub raw-intersects-spec : {M : Type 1} → statement M
-raw-intersects-spec =
-    tie.close (tie.spec raw-distance-requires absolute-requires returns returns-2)
+raw-intersects-spec = tie.close (tie.spec raw-distance-requires crossing-requires returns)

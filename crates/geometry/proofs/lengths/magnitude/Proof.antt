@@ -1,8 +1,8 @@
 -- `magnitude` meets its contract, step by step.
 use borrow.Author.Needs.{needs}
 use Rattle.scope.specs.Offset.{magnitude}
-use Rattle.clustering.proofs.magnitude.Statement.{statement}
-use Rattle.clustering.proofs.magnitude.Tie as tie
+use Rattle.geometry.proofs.lengths.magnitude.Statement.{statement}
+use Rattle.geometry.proofs.lengths.magnitude.Tie as tie
 
 root-or-nan-requires : tie.Need-root-or-nan-requires
 root-or-nan-requires c κs = search needs

@@ -1,7 +1,7 @@
 -- `crossing` meets its contract: below the sum of the radii, and above their difference.
 use borrow.Author.Needs.{needs}
-use Rattle.clustering.proofs.crossing.Statement.{statement}
-use Rattle.clustering.proofs.crossing.Tie as tie
+use Rattle.geometry.proofs.lengths.crossing.Statement.{statement}
+use Rattle.geometry.proofs.lengths.crossing.Tie as tie
 
 absolute-requires : tie.Need-absolute-requires
 absolute-requires c κs = search needs

@@ -1,0 +1,23 @@
+-- Two circles by one distance of their centres, which is the same from either: tests of plain numbers are document 01's tests of the circles.
+use mathlib.Core.Path.{_≡_, refl}
+use mathlib.Core.Bool.{Bool, _&&_, _||_}
+use lib.Ieee.{Float}
+use Rattle.shapes.specs.declared.point.Point.{Point}
+use Rattle.shapes.specs.declared.circle.Circle.{Circle}
+use Rattle.scope.specs.Numbers.{_+ᶠ_, _-ᶠ_, _<ᶠ_, _≤ᶠ_, abs}
+use Rattle.scope.specs.Distance.{distance, intersects, contains}
+use Rattle.scope.specs.Links.{overlap}
+use Rattle.scope.specs.Offset.{magnitude}
+use Rattle.promises.proofs.Overlap.{distance-swapped}
+
+pub magnitude-is-distance : (p q : Point) → magnitude (p .x -ᶠ q .x) (p .y -ᶠ q .y) ≡ distance p q
+unfolding magnitude distance
+magnitude-is-distance p q = refl
+
+-- what `meets` says of the distance and the radii
+abbrev pub meeting : Float → Float → Float → Bool
+meeting d a b = ((d <ᶠ a +ᶠ b) && (abs (a -ᶠ b) <ᶠ d)) || ((d +ᶠ b ≤ᶠ a) || (d +ᶠ a ≤ᶠ b))
+
+pub meeting-is-overlap : (a b : Circle) → meeting (magnitude (a .center .x -ᶠ b .center .x) (a .center .y -ᶠ b .center .y)) (a .radius) (b .radius) ≡ overlap a b
+unfolding overlap intersects contains
+meeting-is-overlap a b = rw (magnitude-is-distance (a .center) (b .center), distance-swapped (b .center) (a .center))

@@ -1,0 +1,35 @@
+// Lengths, and how two circles lie whose centres are so far apart: arithmetic of any numbers, infinities and NaNs too.
+ghost use mathlib.Core.Path.{_≡_};
+ghost use mathlib.Core.Bool.{_&&_, _||_};
+ghost use Rattle.scope.specs.Numbers.{_+ᶠ_, _-ᶠ_, _<ᶠ_, _≤ᶠ_, abs};
+ghost use Rattle.scope.specs.Offset.{magnitude};
+use crate::circle::absolute;
+use crate::point::root_or_nan;
+
+// The root of the sum of the squares, each step rounded.
+pub fn magnitude(x: f64, y: f64) -> f64
+    ensures { λ r. ⌜ r ≡ magnitude x y ⌝ }
+{
+    root_or_nan(x * x + y * y)
+}
+
+// Of circles whose centres are d apart: whether one lies inside the other. One that touches the edge from inside does.
+pub fn within(d: f64, inner: f64, outer: f64) -> bool
+    ensures { λ r. ⌜ r ≡ d +ᶠ inner ≤ᶠ outer ⌝ }
+{
+    d + inner <= outer
+}
+
+// Whether their edges cross. Those of circles that touch, from outside or from inside, do not.
+pub fn crossing(d: f64, a: f64, b: f64) -> bool
+    ensures { λ r. ⌜ r ≡ (d <ᶠ a +ᶠ b) && (abs (a -ᶠ b) <ᶠ d) ⌝ }
+{
+    d < a + b && absolute(a - b) < d
+}
+
+// Whether their edges cross, or one lies inside the other.
+pub fn meets(d: f64, a: f64, b: f64) -> bool
+    ensures { λ r. ⌜ r ≡ ((d <ᶠ a +ᶠ b) && (abs (a -ᶠ b) <ᶠ d)) || ((d +ᶠ b ≤ᶠ a) || (d +ᶠ a ≤ᶠ b)) ⌝ }
+{
+    crossing(d, a, b) || within(d, b, a) || within(d, a, b)
+}
