@@ -28,7 +28,6 @@ use intake::causes::of_circles;
 use intake::causes::of_count;
 use intake::causes::of_regions;
 use intake::limits::MAX_CIRCLES;
-use intake::masks::holds;
 use intake::runs::split;
 use intake::runs::split_array;
 use shapes::circle::Circle;
