@@ -12,7 +12,7 @@ use lib.Pow.{pow-add}
 use borrow.Author.Tests.{eq-eqb, ne-eqb}
 use Rattle.scope.specs.Runs.{bit}
 use Rattle.intake.proofs.Beyond.{no-bit-beyond}
-use Rattle.clustering.specs.Table.{FirstFrom}
+use Rattle.intake.specs.Firsts.{FirstFrom}
 
 digit : (n : ℕ) → (n % 2 ≡ 0) ⊎ (n % 2 ≡ 1)
 digit n = two (n % 2) (omega arith)

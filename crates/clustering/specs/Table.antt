@@ -21,10 +21,3 @@ pub record Shows (n : ℕ) (m : List (List ℕ)) (f : ℕ → ℕ → Bool) : Ty
 -- the same of one row of n cells
 abbrev pub Row : ℕ → List ℕ → (ℕ → Bool) → Type 0
 Row n row p = (j : ℕ) → j < n → getD row j 0 ≡ mark (p j)
-
--- r is the first place at or past `from` where p passes, or n
-pub record FirstFrom (p : ℕ → Bool) (from n r : ℕ) : Type 0 where
-  pub beyond : from ≤ r
-  pub within : r ≤ n
-  pub passed : (k : ℕ) → from ≤ k → k < r → p k ≡ false
-  pub found : r < n → p r ≡ true

@@ -8,7 +8,7 @@ use lib.Dec.{eqb}
 use borrow.Author.Tests.{eq-eqb, ne-eqb}
 use Rattle.scope.specs.Runs.{least}
 use Rattle.promises.proofs.Runs.{least-at, least-none}
-use Rattle.layout.specs.Turns.{FirstFrom}
+use Rattle.intake.specs.Firsts.{FirstFrom}
 
 -- a number read, against a cluster's
 pub is-member : {x number a : ℕ} → x ≡ number → x ≡ a → eqb number a ≡ true

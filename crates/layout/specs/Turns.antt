@@ -1,7 +1,6 @@
 -- The gauge of one cluster, an axis at a time: what the lists of numbers become.
-use Prim.Native.Nat.{ℕ, _≤_, _<_}
-use mathlib.Core.Path.{_≡_}
-use mathlib.Core.Bool.{Bool, true, false, cond}
+use Prim.Native.Nat.{ℕ}
+use mathlib.Core.Bool.{Bool, cond}
 use mathlib.Core.List.{List}
 use lib.ListN.{length}
 use lib.Ieee.{Float}
@@ -11,13 +10,6 @@ use Rattle.scope.specs.Gauge.{level, turn}
 use Rattle.intake.specs.Columns.{at, members}
 use Rattle.layout.specs.Ranges.{rangeOver, middleOf}
 use Rattle.layout.specs.declared.gauge.Turn.{Turn}
-
--- r is the first place at or past `from` that `member` takes, or n
-pub record FirstFrom (member : ℕ → Bool) (from n r : ℕ) : Type 0 where
-  pub beyond : from ≤ r
-  pub within : r ≤ n
-  pub passed : (k : ℕ) → from ≤ k → k < r → member k ≡ false
-  pub found : r < n → member r ≡ true
 
 abbrev pub asTurn : Turn → gauge.Turn
 asTurn t = record { cosine = t .cosine; sine = t .sine }

@@ -9,9 +9,9 @@ ghost use lib.Ieee.{Float, eq};
 ghost use Rattle.scope.specs.Numbers.{_-ᶠ_, _*ᶠ_, _<ᶠ_, _≤ᶠ_, nought, two, e-10, abs};
 ghost use Rattle.scope.specs.Gauge.{inCluster, rotateCluster, gauged, level, turn};
 ghost use Rattle.intake.specs.Columns.{at, circlesOf, members, Lifted};
+ghost use Rattle.intake.specs.Firsts.{FirstFrom};
 ghost use Rattle.layout.specs.Ranges.{rangeOver};
 ghost use Rattle.layout.specs.Turns.{
-  FirstFrom,
   asTurn,
   turnedX,
   turnedY,

@@ -5,7 +5,7 @@ use Prim.Native.Nat.{_+_, _/_, _^_}
 use lib.Count.{trailingZeros}
 use Rattle.scope.specs.Runs.{bit}
 use Rattle.intake.specs.Limits.{maxCircles}
-use Rattle.clustering.specs.Table.{FirstFrom}
+use Rattle.intake.specs.Firsts.{FirstFrom}
 use Rattle.clustering.proofs.NextBits.{next-found, next-none, next-past}
 use Rattle.clustering.proofs.next_of.Statement.{statement}
 use Rattle.clustering.proofs.next_of.Tie as tie
