@@ -1,12 +1,10 @@
 -- The container call of circles whose numbers stand in the front of three lists: its number, and what is answered after a refusal and after an acceptance.
-use Prim.Native.Nat.{ℕ, zero, suc, _-_, _≤_, _<_}
-use native.Mathlib.Nat.{sub-zero}
+use Prim.Native.Nat.{ℕ, _-_, _≤_}
 use native.Mathlib.Omega.{arith}
-use mathlib.Core.Path.{_≡_, refl, sym, ap, _∙_}
+use mathlib.Core.Path.{_≡_, refl, sym, _∙_}
 use mathlib.Core.Logic.{_≢_}
 use mathlib.Core.Bool.{Bool, true, false, cond, _||_}
 use mathlib.Core.List.{List, [], _∷_, _++_}
-use lib.Dec.{T}
 use lib.Ieee.{Float}
 use lib.ListN.{length, take, drop}
 use lib.Seq.{take-at, length-take-le}
@@ -16,7 +14,7 @@ use Rattle.scope.specs.Runs.{any}
 use Rattle.scope.specs.Limits.{circleCap}
 use Rattle.scope.specs.Links.{circle, nowhere}
 use Rattle.scope.specs.Refusals.{causes, causeHolds, first, refusal, tooMany, badCentre, badPoint, badRadius, badSide, containerRefusal}
-use Rattle.scope.specs.Container.{Contained, contained, settled}
+use Rattle.scope.specs.Container.{settled}
 use Rattle.promises.proofs.Cases.{is-false, not-not-iff}
 use Rattle.promises.proofs.Accepted.{not-too-many-iff}
 use Rattle.promises.proofs.AfterRefusal.{container-answers}
@@ -29,7 +27,7 @@ use Rattle.intake.specs.CauseWords.{front}
 use Rattle.intake.proofs.Checking.{few}
 use Rattle.intake.proofs.Columns.{length-shown}
 use Rattle.layout.specs.Answers.{placedOf}
-use Rattle.layout.specs.Settling.{settledAs}
+use Rattle.layout.specs.Settling.{placed}
 use Rattle.layout.specs.Contained.{frontContained, containedNumber, SettledAt, SettledFront}
 use Rattle.layout.specs.declared.container.Placed.{Placed}
 use Rattle.layout.proofs.WholeSteps.{radii-lifted}
@@ -77,9 +75,9 @@ module _ (n : ℕ) (xs ys rs : List Float) (container : Rectangle) where
           let is : number ≡ containerRefusal cs container = e ∙ rw t in
           rw (t, container-answers cs container .at-refusal (λ z. h (is ∙ z)), is)
 
-  pub front-settled : (r : Rectangle) (xs₁ ys₁ : List Float) → length xs₁ ≡ n → length ys₁ ≡ n → settledAs r (circlesOf xs₁ ys₁ (take n rs)) ≡ settled container cs
-      → SettledFront xs ys rs n container r (xs₁ ++ drop (n - 0) xs) (ys₁ ++ drop (n - 0) ys)
-  front-settled r xs₁ ys₁ long-x long-y e = rw (take-at xs₁ (drop (n - 0) xs) n long-x, take-at ys₁ (drop (n - 0) ys) n long-y) (long-x, e)
+  pub front-settled : (xs₁ ys₁ : List Float) → length xs₁ ≡ n → length ys₁ ≡ n → circlesOf xs₁ ys₁ (take n rs) ≡ settled container cs .circles
+      → SettledFront xs ys rs n container (xs₁ ++ drop (n - 0) xs) (ys₁ ++ drop (n - 0) ys)
+  front-settled xs₁ ys₁ long-x long-y e = rw (take-at xs₁ (drop (n - 0) xs) n long-x, take-at ys₁ (drop (n - 0) ys) n long-y) (long-x, e)
 
   -- ---- an acceptance
   module _ (room : n ≤ maxCircles) (h : containerRefusal cs container ≡ 0) where
@@ -90,12 +88,8 @@ module _ (n : ℕ) (xs ys rs : List Float) (container : Rectangle) where
         radii-lifted (take n xs) (take n ys) (take n rs) (length-take-le n rs (omega arith) ∙ sym long)
         (λ i l. not-not-iff (radiusOk (circle cs i .radius)) .0 (λ t. container-reads cs container .accepted .0 h .1 .1 .0 (any-at badRadius cs nowhere .1 (i, rw (length-shown (take n xs) (take n ys) (take n rs)) l, t))))
 
-    pub settled-accepted : (r : Rectangle) (xs′ ys′ : List Float) → SettledFront xs ys rs n container r xs′ ys′ → SettledAt xs ys rs n container (record { refusal = 0; container = r }) xs′ ys′
-    unfolding frontContained circleCap
-    settled-accepted r xs′ ys′ e =
+    pub settled-accepted : (xs′ ys′ : List Float) → SettledFront xs ys rs n container xs′ ys′ → SettledAt xs ys rs n container (record { refusal = 0; container = placed container }) xs′ ys′
+    unfolding frontContained circleCap settled placed
+    settled-accepted xs′ ys′ e =
         let whole : frontContained n xs ys rs container ≡ settled container cs = rw (is-false (tooMany n) (not-too-many-iff n .1 room)) (container-answers cs container .on-acceptance h) in
-        record {
-          placed = ap placedOf (e .1) ∙ rw whole;
-          long = λ z. e .0;
-          circles = λ z. ap (λ (c : Contained). c .circles) (e .1) ∙ rw whole;
-        }
+        record { placed = rw whole; long = λ z. e .0; circles = λ z. e .1 ∙ rw whole }

@@ -11,7 +11,6 @@ use Rattle.scope.specs.Refusals.{tooMany, containerRefusal}
 use Rattle.scope.specs.Container.{Contained, contained, settled}
 use Rattle.intake.specs.CauseWords.{front}
 use Rattle.layout.specs.Answers.{placedOf}
-use Rattle.layout.specs.Settling.{settledAs}
 use Rattle.layout.specs.declared.container.Placed.{Placed}
 
 -- the call on the first n circles of three lists; with too many, none is looked at
@@ -30,9 +29,9 @@ pub record SettledAt (xs ys rs : List Float) (n : ℕ) (container : Rectangle) (
   pub long : r .refusal ≡ 0 → length (take n xs′) ≡ n
   pub circles : r .refusal ≡ 0 → front n xs′ ys′ rs ≡ frontContained n xs ys rs container .circles
 
--- the same of accepted circles
-abbrev pub SettledFront : List Float → List Float → List Float → ℕ → Rectangle → Rectangle → List Float → List Float → Type 0
-SettledFront xs ys rs n container r xs′ ys′ = (length (take n xs′) ≡ n) × (settledAs r (front n xs′ ys′ rs) ≡ settled container (front n xs ys rs))
+-- the circles of accepted ones
+abbrev pub SettledFront : List Float → List Float → List Float → ℕ → Rectangle → List Float → List Float → Type 0
+SettledFront xs ys rs n container xs′ ys′ = (length (take n xs′) ≡ n) × (front n xs′ ys′ rs ≡ settled container (front n xs ys rs) .circles)
 
 -- the call's answer for a run, and the run after it
 abbrev pub Settles : List Circle → Rectangle → Placed → List Circle → Type 0

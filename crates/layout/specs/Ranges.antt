@@ -39,6 +39,10 @@ rangeOfAll coords radii = rangeOf always coords radii
 abbrev pub middleOf : Range → Float
 middleOf r = middle (r .low) (r .high)
 
+-- numbers moved by -d
+abbrev pub movedBack : Float → List Float → List Float
+movedBack d coords = each (λ _ x. x +ᶠ neg d) coords
+
 -- the middle of the range goes to the origin
 abbrev pub centredOn : List Float → List Float → List Float
-centredOn coords radii = each (λ _ x. x +ᶠ neg (middleOf (rangeOfAll coords radii))) coords
+centredOn coords radii = movedBack (middleOf (rangeOfAll coords radii)) coords

@@ -5,7 +5,7 @@ ghost use Rattle.scope.specs.Numbers.{_+ᶠ_};
 ghost use Rattle.scope.specs.Gauge.{middle};
 ghost use Rattle.scope.specs.Centring.{centredLayout};
 ghost use Rattle.intake.specs.Columns.{circlesOf, each, Lifted};
-ghost use Rattle.layout.specs.Ranges.{noRange, widened, rangeOfAll, centredOn};
+ghost use Rattle.layout.specs.Ranges.{noRange, widened, rangeOfAll, middleOf, movedBack, centredOn};
 use shapes::extremes::maximum;
 use shapes::extremes::minimum;
 
@@ -67,13 +67,19 @@ pub(crate) fn range_of(coords: &[f64], radii: &[f64]) -> Range
     r
 }
 
-// Moves the middle of the range to the origin.
+// Moves the middle of a range to the origin.
+pub(crate) fn to_origin(coords: &mut [f64], r: Range)
+    ensures { λ _. ⌜ now (coords .exit) ≡ movedBack (middleOf r) (now (coords .entry)) ⌝ }
+{
+    translate(coords, -middle(r.low, r.high));
+}
+
+// The same of the range of all circles.
 fn centre(coords: &mut [f64], radii: &[f64])
     requires { ⌜ length (now radii) ≡ length (now coords) ⌝ }
     ensures { λ _. ⌜ now (coords .exit) ≡ centredOn (now (coords .entry)) (now (radii .entry)) ⌝ }
 {
-    let r = range_of(coords, radii);
-    translate(coords, -middle(r.low, r.high));
+    to_origin(coords, range_of(coords, radii));
 }
 
 pub(crate) fn center_layout(xs: &mut [f64], ys: &mut [f64], radii: &[f64])

@@ -5,13 +5,13 @@ ghost use lib.ListN.{length, take};
 ghost use Rattle.scope.specs.Container.{contained};
 ghost use Rattle.intake.specs.Limits.{maxCircles};
 ghost use Rattle.intake.specs.Columns.{Lifted};
-ghost use Rattle.intake.specs.CauseWords.{front};
 ghost use Rattle.layout.specs.Answers.{inContainer, placedOf};
 ghost use Rattle.layout.specs.FirstLayout.{firstContained};
-ghost use Rattle.layout.specs.Contained.{SettledAt, SettledFront};
+ghost use Rattle.layout.specs.Contained.{containedNumber, SettledAt, SettledFront};
 use crate::lent::join;
 use crate::lent::recentred;
 use crate::lent::written;
+use crate::settling::placed;
 use crate::settling::settled;
 use intake::causes::number_of;
 use intake::causes::of_circles;
@@ -19,9 +19,8 @@ use intake::causes::of_container;
 use intake::limits::MAX_CIRCLES;
 use intake::runs::split;
 use intake::runs::split_array;
-
-use shapes::point::Point;
 use shapes::circle::Circle;
+use shapes::point::Point;
 use shapes::rectangle::Rectangle;
 
 // A refusal's number or 0, and the container and the circles: as they were given where the call is refused.
@@ -86,26 +85,33 @@ fn settled_at(
 ) -> Placed
     ensures { λ r. ⌜ SettledAt (now (xs .entry)) (now (ys .entry)) (now (radii .entry)) n container r (now (xs .exit)) (now (ys .exit)) ⌝ }
 {
-    let refusal = number_of(of_circles(xs, ys, radii, n) | of_container(container));
+    let refusal = number(xs, ys, radii, n, container);
     if refusal != 0 {
         return Placed { refusal, container };
     }
-    let placed = in_front(xs, ys, radii, n, container);
+    in_front(xs, ys, radii, n, container);
     Placed {
         refusal: 0,
-        container: placed,
+        container: placed(container),
     }
 }
 
-fn in_front(
-    xs: &mut [f64],
-    ys: &mut [f64],
-    radii: &[f64],
+// A refusal's number, or 0.
+fn number(
+    xs: &[f64; MAX_CIRCLES],
+    ys: &[f64; MAX_CIRCLES],
+    radii: &[f64; MAX_CIRCLES],
     n: usize,
     container: Rectangle,
-) -> Rectangle
-    requires { ⌜ (n ≤ maxCircles) × (length (now xs) ≡ maxCircles) × (length (now ys) ≡ maxCircles) × (length (now radii) ≡ maxCircles) × Lifted (take n (now radii)) ⌝ }
-    ensures { λ r. ⌜ SettledFront (now (xs .entry)) (now (ys .entry)) (now (radii .entry)) n container r (now (xs .exit)) (now (ys .exit)) ⌝ }
+) -> u8
+    ensures { λ r. ⌜ r ≡ containedNumber n (now (xs .entry)) (now (ys .entry)) (now (radii .entry)) container ⌝ }
 {
-    settled(&mut xs[0..n], &mut ys[0..n], &radii[0..n], container)
+    number_of(of_circles(xs, ys, radii, n) | of_container(container))
+}
+
+fn in_front(xs: &mut [f64], ys: &mut [f64], radii: &[f64], n: usize, container: Rectangle)
+    requires { ⌜ (n ≤ maxCircles) × (length (now xs) ≡ maxCircles) × (length (now ys) ≡ maxCircles) × (length (now radii) ≡ maxCircles) × Lifted (take n (now radii)) ⌝ }
+    ensures { λ _. ⌜ SettledFront (now (xs .entry)) (now (ys .entry)) (now (radii .entry)) n container (now (xs .exit)) (now (ys .exit)) ⌝ }
+{
+    settled(&mut xs[0..n], &mut ys[0..n], &radii[0..n], container);
 }

@@ -3,59 +3,74 @@ ghost use mathlib.Core.Path.{_≡_};
 ghost use lib.ListN.{length};
 ghost use Rattle.scope.specs.Container.{centredIn, settled};
 ghost use Rattle.intake.specs.Columns.{circlesOf, Lifted};
-ghost use Rattle.layout.specs.Settling.{off, near, past, pastEither, settledAs};
+ghost use Rattle.layout.specs.Settling.{off, near, past, pastEither, stays, along, atOrigin, placed};
 use crate::axis::Range;
 use crate::axis::middle;
 use crate::axis::range_of;
+use crate::axis::to_origin;
 use crate::axis::translate;
 use geometry::circle::absolute;
 use shapes::extremes::maximum;
 use shapes::point::Point;
 use shapes::rectangle::Rectangle;
 
-// The container as it stands then.
-pub(crate) fn settled(
-    xs: &mut [f64],
-    ys: &mut [f64],
-    radii: &[f64],
-    container: Rectangle,
-) -> Rectangle
+// The circles along with a container that goes to the origin, and then to its middle.
+pub(crate) fn settled(xs: &mut [f64], ys: &mut [f64], radii: &[f64], container: Rectangle)
     requires { ⌜ (length (now ys) ≡ length (now xs)) × (length (now radii) ≡ length (now xs)) × Lifted (now radii) ⌝ }
-    ensures { λ r. ⌜ settledAs r (circlesOf (now (xs .exit)) (now (ys .exit)) (now (radii .entry))) ≡ settled container (circlesOf (now (xs .entry)) (now (ys .entry)) (now (radii .entry))) ⌝ }
+    ensures { λ _. ⌜ circlesOf (now (xs .exit)) (now (ys .exit)) (now (radii .entry)) ≡ settled container (circlesOf (now (xs .entry)) (now (ys .entry)) (now (radii .entry))) .circles ⌝ }
 {
-    let x = container.center.x;
-    let y = container.center.y;
-    if is_off(x, y) {
-        let placed = Rectangle::new(Point::new(0.0, 0.0), container.width, container.height);
-        translate(xs, -x);
-        translate(ys, -y);
-        center_shapes_in_container(xs, ys, radii, placed);
-        return placed;
+    go_along(xs, ys, container.center.x, container.center.y);
+    center_shapes_in_container(xs, ys, radii, container.width, container.height);
+}
+
+// Where the container then stands.
+pub(crate) fn placed(container: Rectangle) -> Rectangle
+    ensures { λ r. ⌜ r ≡ placed container ⌝ }
+{
+    if is_off(container.center.x, container.center.y) {
+        return Rectangle::new(Point::new(0.0, 0.0), container.width, container.height);
     }
-    center_shapes_in_container(xs, ys, radii, container);
     container
 }
 
-// Circles that stand in the middle already stay where they are, to the last bit.
-fn center_shapes_in_container(xs: &mut [f64], ys: &mut [f64], radii: &[f64], container: Rectangle)
-    requires { ⌜ (length (now ys) ≡ length (now xs)) × (length (now radii) ≡ length (now xs)) × Lifted (now radii) ⌝ }
-    ensures { λ _. ⌜ circlesOf (now (xs .exit)) (now (ys .exit)) (now (radii .entry)) ≡ centredIn container (circlesOf (now (xs .entry)) (now (ys .entry)) (now (radii .entry))) ⌝ }
+fn go_along(xs: &mut [f64], ys: &mut [f64], x: f64, y: f64)
+    ensures xs { λ _. ⌜ now (xs .exit) ≡ along x y x (now (xs .entry)) ⌝ }
+    ensures ys { λ _. ⌜ now (ys .exit) ≡ along x y y (now (ys .entry)) ⌝ }
 {
-    if xs.len() == 0 {
-        return;
+    if is_off(x, y) {
+        translate(xs, -x);
+        translate(ys, -y);
     }
+}
+
+fn center_shapes_in_container(
+    xs: &mut [f64],
+    ys: &mut [f64],
+    radii: &[f64],
+    width: f64,
+    height: f64,
+)
+    requires { ⌜ (length (now ys) ≡ length (now xs)) × (length (now radii) ≡ length (now xs)) × Lifted (now radii) ⌝ }
+    ensures { λ _. ⌜ circlesOf (now (xs .exit)) (now (ys .exit)) (now (radii .entry)) ≡ centredIn (atOrigin width height) (circlesOf (now (xs .entry)) (now (ys .entry)) (now (radii .entry))) ⌝ }
+{
     let across = range_of(xs, radii);
     let up = range_of(ys, radii);
-    if reaches_past(container, across, up) {
+    if stays(xs.len(), width, height, across, up) {
         return;
     }
-    let dx = middle(across.low, across.high);
-    let dy = middle(up.low, up.high);
-    if is_near(dx, dy) {
-        return;
+    to_origin(xs, across);
+    to_origin(ys, up);
+}
+
+// Whether n circles are left where they are: none, too large for the container, or in the middle already, so that they stay to the last bit.
+fn stays(n: usize, width: f64, height: f64, across: Range, up: Range) -> bool
+    ensures { λ r. ⌜ r ≡ stays n width height across up ⌝ }
+{
+    if n == 0 {
+        return true;
     }
-    translate(xs, -dx);
-    translate(ys, -dy);
+    reaches_past(width, height, across, up)
+        || is_near(middle(across.low, across.high), middle(up.low, up.high))
 }
 
 // Whether a point is too far from the origin to count as there, and whether it is near enough. A NaN is neither.
@@ -72,11 +87,11 @@ fn is_near(x: f64, y: f64) -> bool
 }
 
 // Whether the circles reach past a container that stands at the origin, by more than rounding explains.
-fn reaches_past(container: Rectangle, across: Range, up: Range) -> bool
-    ensures { λ r. ⌜ r ≡ pastEither container across up ⌝ }
+fn reaches_past(width: f64, height: f64, across: Range, up: Range) -> bool
+    ensures { λ r. ⌜ r ≡ pastEither width height across up ⌝ }
 {
-    let half_width = container.width / 2.0;
-    let half_height = container.height / 2.0;
+    let half_width = width / 2.0;
+    let half_height = height / 2.0;
     let tolerance = 1e-9 * maximum(maximum(half_width, half_height), 1.0);
     is_past(across, half_width, tolerance) || is_past(up, half_height, tolerance)
 }

@@ -1,7 +1,7 @@
 -- `in_front` meets its contract: the steps on the first n circles.
 use native.Mathlib.Nat.{sub-zero}
 use native.Mathlib.Omega.{arith}
-use mathlib.Core.Path.{_≡_, sym, _∙_}
+use mathlib.Core.Path.{sym, _∙_}
 use borrow.Author.Needs.{needs}
 use Rattle.layout.proofs.PackedClusters.{part-length}
 use Rattle.layout.proofs.FrontContained.{front-settled}
@@ -55,7 +55,7 @@ returns c =
     let p = S .pre in
     let a = S .args in
     let r = c .before .before .before .before .settled in
-    front-settled (a .n) (a .xs .now) (a .ys .now) (a .radii .now) (a .container) (r .result) _ _ (omega (arith, part-length (a .n) _ (a .xs .now) (p .1) (p .0), r .kept)) (omega (arith, part-length (a .n) _ (a .ys .now) (p .2) (p .0), r .kept)) (rw sub-zero at (r .ensures))
+    front-settled (a .n) (a .xs .now) (a .ys .now) (a .radii .now) (a .container) _ _ (omega (arith, part-length (a .n) _ (a .xs .now) (p .1) (p .0), r .kept)) (omega (arith, part-length (a .n) _ (a .ys .now) (p .2) (p .0), r .kept)) (rw sub-zero at (r .ensures))
 
 pub in-front-spec : {M : Type 1} → statement M
 in-front-spec =
