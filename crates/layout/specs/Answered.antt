@@ -1,4 +1,5 @@
--- What a core answers for the first n numbers of its arrays, by a definition of the answer for a run: a refusal's number or 0, and the circles after an acceptance.
+-- What a core answers for the first n numbers of its arrays, by a definition of the answer for a run:
+-- a refusal's number or 0, and the circles after an acceptance.
 use Prim.Native.Nat.{ℕ}
 use mathlib.Core.Path.{_≡_}
 use mathlib.Core.Bool.{cond}
@@ -14,4 +15,7 @@ abbrev pub unlessMany : {X : Type 0} → ℕ → X → X → X
 unlessMany n bad good = cond (tooMany n) bad good
 
 unfoldable pub Answered : (List Circle → ℕ) → (List Circle → List Circle) → List Float → List Float → List Float → ℕ → ℕ → List Float → List Float → Type 0
-Answered number after xs ys rs n refusal xs′ ys′ = (refusal ≡ unlessMany n 1 (number (front n xs ys rs))) × (refusal ≡ 0 → front n xs′ ys′ rs ≡ after (front n xs ys rs)) × (refusal ≡ 0 → length (take n xs′) ≡ n)
+Answered number after xs ys rs n refusal xs′ ys′ =
+    (refusal ≡ unlessMany n 1 (number (front n xs ys rs)))
+    × (refusal ≡ 0 → front n xs′ ys′ rs ≡ after (front n xs ys rs))
+    × (refusal ≡ 0 → length (take n xs′) ≡ n)

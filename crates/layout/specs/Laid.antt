@@ -46,4 +46,7 @@ pub record Laid (xs ys rs : List Float) (n : ℕ) (factor : Float) (masks : List
 
 -- the call's answer for a run, and the run after it
 abbrev pub Lays : List Circle → Float → List ℕ → List Float → Result → List Circle → Type 0
-Lays cs factor masks areas r cs′ = (resultOf r ≡ layout cs factor masks areas .result) × (cs′ ≡ layout cs factor masks areas .circles) × (r .refusal ≡ 0 → Promises bound cs (regions masks areas) (resultOf r) cs′)
+Lays cs factor masks areas r cs′ =
+    (resultOf r ≡ layout cs factor masks areas .result)
+    × (cs′ ≡ layout cs factor masks areas .circles)
+    × (r .refusal ≡ 0 → Promises bound cs (regions masks areas) (resultOf r) cs′)

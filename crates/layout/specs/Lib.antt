@@ -8,4 +8,5 @@ pub mod Answered
 pub mod Recentred
 pub mod FirstLayout
 pub mod Laid
+pub mod Shown
 pub mod Contained

@@ -4,8 +4,9 @@ ghost use lib.ListN.{length};
 ghost use Rattle.scope.specs.Numbers.{_+ᶠ_};
 ghost use Rattle.scope.specs.Gauge.{middle};
 ghost use Rattle.scope.specs.Centring.{centredLayout};
-ghost use Rattle.intake.specs.Columns.{circlesOf, each, Lifted};
+ghost use Rattle.intake.specs.Columns.{each};
 ghost use Rattle.layout.specs.Ranges.{noRange, widened, rangeOfAll, middleOf, movedBack, centredOn};
+ghost use Rattle.layout.specs.Shown.{CircleLists, Become};
 use shapes::extremes::maximum;
 use shapes::extremes::minimum;
 
@@ -83,8 +84,8 @@ fn centre(coords: &mut [f64], radii: &[f64])
 }
 
 pub(crate) fn center_layout(xs: &mut [f64], ys: &mut [f64], radii: &[f64])
-    requires { ⌜ (length (now ys) ≡ length (now xs)) × (length (now radii) ≡ length (now xs)) × Lifted (now radii) ⌝ }
-    ensures { λ _. ⌜ circlesOf (now (xs .exit)) (now (ys .exit)) (now (radii .entry)) ≡ centredLayout (circlesOf (now (xs .entry)) (now (ys .entry)) (now (radii .entry))) ⌝ }
+    requires { ⌜ CircleLists (now xs) (now ys) (now radii) ⌝ }
+    ensures { λ _. ⌜ Become centredLayout (now (xs .entry)) (now (ys .entry)) (now (radii .entry)) (now (xs .exit)) (now (ys .exit)) ⌝ }
 {
     centre(xs, radii);
     centre(ys, radii);

@@ -2,8 +2,7 @@
 ghost use mathlib.Core.Path.{_≡_};
 ghost use Prim.Native.Nat.{_<_};
 ghost use lib.ListN.{length};
-ghost use Rattle.scope.specs.Padding.{boxes};
-ghost use Rattle.intake.specs.Columns.{circlesOf, each};
+ghost use Rattle.intake.specs.Columns.{each};
 ghost use Rattle.layout.specs.ClusterBoxes.{
   Numbered,
   lowsOf,
@@ -14,6 +13,7 @@ ghost use Rattle.layout.specs.ClusterBoxes.{
   paddingFor,
   shiftedBy,
 };
+ghost use Rattle.layout.specs.Shown.{boxesOf, BoxRoom};
 use crate::axis::middle;
 use geometry::point::root_or_nan;
 use shapes::extremes::maximum;
@@ -30,8 +30,9 @@ pub(crate) fn cluster_boxes(
     up: &mut [f64],
     heights: &mut [f64],
 )
-    requires { ⌜ (length (now ys) ≡ length (now xs)) × (length (now radii) ≡ length (now xs)) × (length (now numbers) ≡ length (now xs)) × (length (now widths) ≡ length (now across)) × (length (now up) ≡ length (now across)) × (length (now heights) ≡ length (now across)) × Numbered (length (now across)) (now numbers) ⌝ }
-    ensures { λ _. ⌜ BoxLists (boxes (length (now (across .entry))) (now (numbers .entry)) (circlesOf (now (xs .entry)) (now (ys .entry)) (now (radii .entry)))) (now (across .exit)) (now (widths .exit)) (now (up .exit)) (now (heights .exit)) ⌝ }
+    requires { ⌜ BoxRoom (now xs) (now ys) (now radii) (now numbers) (now across) (now widths) (now up) (now heights) ⌝ }
+    ensures { λ _. ⌜ BoxLists (boxesOf (length (now (across .entry))) (now (numbers .entry)) (now (xs .entry)) (now (ys .entry)) (now (radii .entry)))
+        (now (across .exit)) (now (widths .exit)) (now (up .exit)) (now (heights .exit)) ⌝ }
 {
     cluster_ranges(xs, radii, numbers, across, widths);
     cluster_ranges(ys, radii, numbers, up, heights);
@@ -47,7 +48,8 @@ pub(crate) fn cluster_ranges(
     lows: &mut [f64],
     highs: &mut [f64],
 )
-    requires { ⌜ (length (now radii) ≡ length (now coords)) × (length (now numbers) ≡ length (now coords)) × (length (now highs) ≡ length (now lows)) × Numbered (length (now lows)) (now numbers) ⌝ }
+    requires { ⌜ (length (now radii) ≡ length (now coords)) × (length (now numbers) ≡ length (now coords)) × (length (now highs) ≡ length (now lows))
+        × Numbered (length (now lows)) (now numbers) ⌝ }
     ensures low { λ _. ⌜ now (lows .exit) ≡ lowsOf (length (now (lows .entry))) (now (numbers .entry)) (now (coords .entry)) (now (radii .entry)) ⌝ }
     ensures high { λ _. ⌜ now (highs .exit) ≡ highsOf (length (now (lows .entry))) (now (numbers .entry)) (now (coords .entry)) (now (radii .entry)) ⌝ }
 {

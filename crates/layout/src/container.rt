@@ -110,7 +110,8 @@ fn number(
 }
 
 fn in_front(xs: &mut [f64], ys: &mut [f64], radii: &[f64], n: usize, container: Rectangle)
-    requires { ⌜ (n ≤ maxCircles) × (length (now xs) ≡ maxCircles) × (length (now ys) ≡ maxCircles) × (length (now radii) ≡ maxCircles) × Lifted (take n (now radii)) ⌝ }
+    requires { ⌜ (n ≤ maxCircles) × (length (now xs) ≡ maxCircles) × (length (now ys) ≡ maxCircles) × (length (now radii) ≡ maxCircles)
+        × Lifted (take n (now radii)) ⌝ }
     ensures { λ _. ⌜ SettledFront (now (xs .entry)) (now (ys .entry)) (now (radii .entry)) n container (now (xs .exit)) (now (ys .exit)) ⌝ }
 {
     settled(&mut xs[0..n], &mut ys[0..n], &radii[0..n], container);

@@ -2,15 +2,15 @@
 // A cluster is the circles that have its number.
 ghost use mathlib.Core.Path.{_≡_};
 ghost use mathlib.Core.Bool.{_&&_};
-ghost use mathlib.Core.List.{List};
 ghost use Prim.Native.Nat.{_<_, _≤_};
 ghost use lib.ListN.{length};
-ghost use lib.Ieee.{Float, eq};
+ghost use lib.Ieee.{eq};
 ghost use Rattle.scope.specs.Numbers.{_-ᶠ_, _*ᶠ_, _<ᶠ_, _≤ᶠ_, nought, two, e-10, abs};
 ghost use Rattle.scope.specs.Gauge.{inCluster, rotateCluster, gauged, level, turn};
-ghost use Rattle.intake.specs.Columns.{at, circlesOf, members, Lifted};
+ghost use Rattle.intake.specs.Columns.{at, members};
 ghost use Rattle.intake.specs.Firsts.{FirstFrom};
 ghost use Rattle.layout.specs.Ranges.{rangeOver};
+ghost use Rattle.layout.specs.Shown.{AllBecome};
 ghost use Rattle.layout.specs.Turns.{
   asTurn,
   turnedX,
@@ -35,7 +35,7 @@ struct Turn {
 // Every cluster in turn.
 pub(crate) fn gauged_clusters(xs: &mut [f64], ys: &mut [f64], numbers: &[u8], count: usize)
     requires { ⌜ (length (now ys) ≡ length (now xs)) × (length (now numbers) ≡ length (now xs)) ⌝ }
-    ensures { λ _. ⌜ ((rs : List Float) → Lifted rs → circlesOf (now (xs .exit)) (now (ys .exit)) rs ≡ gauged count (now (numbers .entry)) (circlesOf (now (xs .entry)) (now (ys .entry)) rs)) ⌝ }
+    ensures { λ _. ⌜ AllBecome (gauged count (now (numbers .entry))) (now (xs .entry)) (now (ys .entry)) (now (xs .exit)) (now (ys .exit)) ⌝ }
 {
     let mut a: usize = 0;
     while a < count {
@@ -47,7 +47,7 @@ pub(crate) fn gauged_clusters(xs: &mut [f64], ys: &mut [f64], numbers: &[u8], co
 // A cluster of one circle has no direction, and stays.
 fn rotate_cluster(xs: &mut [f64], ys: &mut [f64], numbers: &[u8], a: usize)
     requires { ⌜ (length (now ys) ≡ length (now xs)) × (length (now numbers) ≡ length (now xs)) ⌝ }
-    ensures { λ _. ⌜ ((rs : List Float) → Lifted rs → circlesOf (now (xs .exit)) (now (ys .exit)) rs ≡ rotateCluster (inCluster (now (numbers .entry)) a) (circlesOf (now (xs .entry)) (now (ys .entry)) rs)) ⌝ }
+    ensures { λ _. ⌜ AllBecome (rotateCluster (inCluster (now (numbers .entry)) a)) (now (xs .entry)) (now (ys .entry)) (now (xs .exit)) (now (ys .exit)) ⌝ }
 {
     let n = numbers.len();
     let first = next_member(numbers, a, 0);
@@ -137,8 +137,10 @@ fn turn_of(dx: f64, dy: f64) -> Turn
 // The circles of the cluster turned about (p, q), the others as they were.
 fn all_turned(xs: &mut [f64], ys: &mut [f64], numbers: &[u8], a: usize, t: Turn, p: f64, q: f64)
     requires { ⌜ (length (now ys) ≡ length (now xs)) × (length (now numbers) ≡ length (now xs)) ⌝ }
-    ensures x { λ _. ⌜ now (xs .exit) ≡ members (inCluster (now (numbers .entry)) a) (λ i x. turnedX (asTurn t) p q x (at (now (ys .entry)) i)) (now (xs .entry)) ⌝ }
-    ensures y { λ _. ⌜ now (ys .exit) ≡ members (inCluster (now (numbers .entry)) a) (λ i y. turnedY (asTurn t) p q (at (now (xs .entry)) i) y) (now (ys .entry)) ⌝ }
+    ensures x { λ _. ⌜ now (xs .exit) ≡ members (inCluster (now (numbers .entry)) a)
+        (λ i x. turnedX (asTurn t) p q x (at (now (ys .entry)) i)) (now (xs .entry)) ⌝ }
+    ensures y { λ _. ⌜ now (ys .exit) ≡ members (inCluster (now (numbers .entry)) a)
+        (λ i y. turnedY (asTurn t) p q (at (now (xs .entry)) i) y) (now (ys .entry)) ⌝ }
 {
     let mut i: usize = 0;
     while i < xs.len() {

@@ -3,12 +3,9 @@ ghost use mathlib.Core.Path.{_≡_};
 ghost use mathlib.Core.List.{[]};
 ghost use Prim.Native.Nat.{_≤_, _<_};
 ghost use lib.ListN.{length, take};
-ghost use Rattle.scope.specs.Numbers.{golden};
 ghost use Rattle.scope.specs.Links.{regions};
 ghost use Rattle.scope.specs.Refusals.{layoutRefusal};
 ghost use Rattle.scope.specs.Tolerance.{tolerance};
-ghost use Rattle.scope.specs.Offset.{offset};
-ghost use Rattle.scope.specs.Gauge.{gauged};
 ghost use Rattle.scope.specs.Padding.{boxes, padding};
 ghost use Rattle.scope.specs.Layout.{layout, arranged, refusedLayout};
 ghost use Rattle.scope.specs.Promises.{Promises};
@@ -16,10 +13,12 @@ ghost use Rattle.promises.specs.Demand3.{bound, AreDoubles};
 ghost use Rattle.intake.specs.Limits.{maxCircles};
 ghost use Rattle.intake.specs.Columns.{circlesOf, Lifted};
 ghost use Rattle.intake.specs.CauseWords.{front};
+ghost use Rattle.packing.specs.Lists.{FullLength};
 ghost use Rattle.layout.specs.Answers.{resultOf, laidOut};
 ghost use Rattle.layout.specs.ClusterBoxes.{Numbered, BoxLists};
 ghost use Rattle.layout.specs.FirstLayout.{firstLayout};
-ghost use Rattle.layout.specs.Laid.{Laid, Packable, packedClusters, settledClusters};
+ghost use Rattle.layout.specs.Laid.{Laid, packedClusters, settledClusters};
+ghost use Rattle.layout.specs.Shown.{Become, partedOf, gaugedOf, arrangedOf, boxesOf, BoxRoom, ToPack};
 use crate::axis::center_layout;
 use crate::boxes::cluster_boxes;
 use crate::boxes::padding_of;
@@ -38,10 +37,9 @@ use intake::causes::of_regions;
 use intake::limits::MAX_CIRCLES;
 use intake::runs::split;
 use intake::runs::split_array;
-
 use packing::pack_sides;
-use shapes::point::Point;
 use shapes::circle::Circle;
+use shapes::point::Point;
 
 // Document 01's result: a refusal's number or 0, the clusters, the mask of the moved circles, and the padding. What is not used is 0.
 #[repr(C)]
@@ -68,7 +66,9 @@ pub fn normalize_layout_with_clusters(
     masks: &[u64],
     areas: &[f64],
 ) -> Result
-    ensures { λ r. ⌜ (resultOf r ≡ layout (now (circles .entry)) factor (now (masks .entry)) (now (areas .entry)) .result) × (now (circles .exit) ≡ layout (now (circles .entry)) factor (now (masks .entry)) (now (areas .entry)) .circles) × (r .refusal ≡ 0 → Promises bound (now (circles .entry)) (regions (now (masks .entry)) (now (areas .entry))) (resultOf r) (now (circles .exit))) ⌝ }
+    ensures { λ r. ⌜ (resultOf r ≡ layout (now (circles .entry)) factor (now (masks .entry)) (now (areas .entry)) .result)
+        × (now (circles .exit) ≡ layout (now (circles .entry)) factor (now (masks .entry)) (now (areas .entry)) .circles)
+        × (r .refusal ≡ 0 → Promises bound (now (circles .entry)) (regions (now (masks .entry)) (now (areas .entry))) (resultOf r) (now (circles .exit))) ⌝ }
 {
     let mut xs = [0.0; MAX_CIRCLES];
     let mut ys = [0.0; MAX_CIRCLES];
@@ -89,7 +89,8 @@ pub fn normalize_layout_with_clusters_by_value(
     areas: &[f64],
 ) -> Layout
     ensures answer { λ r. ⌜ laidOut r ≡ firstLayout n circles factor (now (masks .entry)) (now (areas .entry)) ⌝ }
-    ensures promises { λ r. ⌜ (r .result .refusal ≡ 0 → Promises bound (take n circles) (regions (now (masks .entry)) (now (areas .entry))) (resultOf (r .result)) (take n (r .circles))) ⌝ }
+    ensures promises { λ r. ⌜ (r .result .refusal ≡ 0 → Promises bound (take n circles) (regions (now (masks .entry)) (now (areas .entry)))
+        (resultOf (r .result)) (take n (r .circles))) ⌝ }
 {
     let mut xs = [0.0; MAX_CIRCLES];
     let mut ys = [0.0; MAX_CIRCLES];
@@ -112,9 +113,12 @@ fn laid(
     masks: &[u64],
     areas: &[f64],
 ) -> Result
-    ensures { λ r. ⌜ Laid (now (xs .entry)) (now (ys .entry)) (now (radii .entry)) n factor (now (masks .entry)) (now (areas .entry)) r (now (xs .exit)) (now (ys .exit)) ⌝ }
+    ensures { λ r. ⌜ Laid (now (xs .entry)) (now (ys .entry)) (now (radii .entry)) n factor (now (masks .entry)) (now (areas .entry)) r
+        (now (xs .exit)) (now (ys .exit)) ⌝ }
 {
-    let refusal = number_of(of_circles(xs, ys, radii, n) | of_regions(masks, areas) | of_factor(factor));
+    let refusal = number_of(
+        of_circles(xs, ys, radii, n) | of_regions(masks, areas) | of_factor(factor),
+    );
     if refusal != 0 {
         return refused(refusal);
     }
@@ -142,10 +146,19 @@ fn in_front(
     masks: &[u64],
     areas: &[f64],
 ) -> Result
-    requires { ⌜ (n ≤ maxCircles) × (length (now xs) ≡ maxCircles) × (length (now ys) ≡ maxCircles) × (length (now radii) ≡ maxCircles) × (layoutRefusal (front n (now xs) (now ys) (now radii)) factor (now masks) (now areas) ≡ 0) ⌝ }
-    ensures { λ r. ⌜ Laid (now (xs .entry)) (now (ys .entry)) (now (radii .entry)) n factor (now (masks .entry)) (now (areas .entry)) r (now (xs .exit)) (now (ys .exit)) ⌝ }
+    requires { ⌜ (n ≤ maxCircles) × (length (now xs) ≡ maxCircles) × (length (now ys) ≡ maxCircles) × (length (now radii) ≡ maxCircles)
+        × (layoutRefusal (front n (now xs) (now ys) (now radii)) factor (now masks) (now areas) ≡ 0) ⌝ }
+    ensures { λ r. ⌜ Laid (now (xs .entry)) (now (ys .entry)) (now (radii .entry)) n factor (now (masks .entry)) (now (areas .entry)) r
+        (now (xs .exit)) (now (ys .exit)) ⌝ }
 {
-    arranged(&mut xs[0..n], &mut ys[0..n], &radii[0..n], factor, masks, areas)
+    arranged(
+        &mut xs[0..n],
+        &mut ys[0..n],
+        &radii[0..n],
+        factor,
+        masks,
+        areas,
+    )
 }
 
 // ---- the steps, one after the other
@@ -158,9 +171,13 @@ fn arranged(
     masks: &[u64],
     areas: &[f64],
 ) -> Result
-    requires { ⌜ (length (now xs) ≤ maxCircles) × (length (now ys) ≡ length (now xs)) × (length (now radii) ≡ length (now xs)) × (layoutRefusal (circlesOf (now xs) (now ys) (now radii)) factor (now masks) (now areas) ≡ 0) × AreDoubles (circlesOf (now xs) (now ys) (now radii)) factor ⌝ }
-    ensures result { λ r. ⌜ resultOf r ≡ arranged golden (circlesOf (now (xs .entry)) (now (ys .entry)) (now (radii .entry))) factor (regions (now (masks .entry)) (now (areas .entry))) .result ⌝ }
-    ensures circles { λ r. ⌜ circlesOf (now (xs .exit)) (now (ys .exit)) (now (radii .entry)) ≡ arranged golden (circlesOf (now (xs .entry)) (now (ys .entry)) (now (radii .entry))) factor (regions (now (masks .entry)) (now (areas .entry))) .circles ⌝ }
+    requires { ⌜ (length (now xs) ≤ maxCircles) × (length (now ys) ≡ length (now xs)) × (length (now radii) ≡ length (now xs))
+        × (layoutRefusal (circlesOf (now xs) (now ys) (now radii)) factor (now masks) (now areas) ≡ 0)
+        × AreDoubles (circlesOf (now xs) (now ys) (now radii)) factor ⌝ }
+    ensures result { λ r. ⌜ resultOf r
+        ≡ arrangedOf (now (xs .entry)) (now (ys .entry)) (now (radii .entry)) factor (now (masks .entry)) (now (areas .entry)) .result ⌝ }
+    ensures circles { λ r. ⌜ circlesOf (now (xs .exit)) (now (ys .exit)) (now (radii .entry))
+        ≡ arrangedOf (now (xs .entry)) (now (ys .entry)) (now (radii .entry)) factor (now (masks .entry)) (now (areas .entry)) .circles ⌝ }
 {
     let n = xs.len();
     let tol = tolerance(areas);
@@ -186,9 +203,11 @@ fn parted(
     areas: &[f64],
     tol: f64,
 ) -> u64
-    requires { ⌜ (length (now ys) ≡ length (now xs)) × (length (now radii) ≡ length (now xs)) × (length (now xs) ≤ maxCircles) × (length (now masks) ≡ length (now areas)) × Lifted (now radii) × (tol ≡ tolerance (regions (now masks) (now areas))) ⌝ }
-    ensures circles { λ r. ⌜ circlesOf (now (xs .exit)) (now (ys .exit)) (now (radii .entry)) ≡ offset (circlesOf (now (xs .entry)) (now (ys .entry)) (now (radii .entry))) (regions (now (masks .entry)) (now (areas .entry))) .circles ⌝ }
-    ensures mask { λ r. ⌜ r ≡ offset (circlesOf (now (xs .entry)) (now (ys .entry)) (now (radii .entry))) (regions (now (masks .entry)) (now (areas .entry))) .mask ⌝ }
+    requires { ⌜ (length (now ys) ≡ length (now xs)) × (length (now radii) ≡ length (now xs)) × (length (now xs) ≤ maxCircles)
+        × (length (now masks) ≡ length (now areas)) × Lifted (now radii) × (tol ≡ tolerance (regions (now masks) (now areas))) ⌝ }
+    ensures circles { λ r. ⌜ circlesOf (now (xs .exit)) (now (ys .exit)) (now (radii .entry))
+        ≡ partedOf (now (xs .entry)) (now (ys .entry)) (now (radii .entry)) (now (masks .entry)) (now (areas .entry)) .circles ⌝ }
+    ensures mask { λ r. ⌜ r ≡ partedOf (now (xs .entry)) (now (ys .entry)) (now (radii .entry)) (now (masks .entry)) (now (areas .entry)) .mask ⌝ }
 {
     let n = xs.len();
     let mut parents = [0u16; MAX_CIRCLES];
@@ -204,9 +223,12 @@ fn placed(
     count: usize,
     factor: f64,
 ) -> f64
-    requires { ⌜ (length (now ys) ≡ length (now xs)) × (length (now radii) ≡ length (now xs)) × (length (now numbers) ≡ length (now xs)) × Lifted (now radii) × (count ≤ maxCircles) × Numbered count (now numbers) × Packable count (now numbers) (gauged count (now numbers) (circlesOf (now xs) (now ys) (now radii))) factor ⌝ }
-    ensures padding { λ r. ⌜ r ≡ padding (boxes count (now (numbers .entry)) (gauged count (now (numbers .entry)) (circlesOf (now (xs .entry)) (now (ys .entry)) (now (radii .entry))))) factor ⌝ }
-    ensures circles { λ r. ⌜ circlesOf (now (xs .exit)) (now (ys .exit)) (now (radii .entry)) ≡ settledClusters count (now (numbers .entry)) factor (gauged count (now (numbers .entry)) (circlesOf (now (xs .entry)) (now (ys .entry)) (now (radii .entry)))) ⌝ }
+    requires { ⌜ ToPack count (now numbers) factor (now xs) (now ys) (now radii) (gaugedOf count (now numbers) (now xs) (now ys) (now radii)) ⌝ }
+    ensures padding { λ r. ⌜ r ≡ padding (boxes count (now (numbers .entry))
+        (gaugedOf count (now (numbers .entry)) (now (xs .entry)) (now (ys .entry)) (now (radii .entry)))) factor ⌝ }
+    ensures circles { λ r. ⌜ circlesOf (now (xs .exit)) (now (ys .exit)) (now (radii .entry))
+        ≡ settledClusters count (now (numbers .entry)) factor
+        (gaugedOf count (now (numbers .entry)) (now (xs .entry)) (now (ys .entry)) (now (radii .entry))) ⌝ }
 {
     gauged_clusters(xs, ys, numbers, count);
     let padding = pack_clusters(xs, ys, radii, numbers, count, factor);
@@ -223,9 +245,10 @@ fn pack_clusters(
     count: usize,
     factor: f64,
 ) -> f64
-    requires { ⌜ (length (now ys) ≡ length (now xs)) × (length (now radii) ≡ length (now xs)) × (length (now numbers) ≡ length (now xs)) × Lifted (now radii) × (count ≤ maxCircles) × Numbered count (now numbers) × Packable count (now numbers) (circlesOf (now xs) (now ys) (now radii)) factor ⌝ }
-    ensures padding { λ r. ⌜ r ≡ padding (boxes count (now (numbers .entry)) (circlesOf (now (xs .entry)) (now (ys .entry)) (now (radii .entry)))) factor ⌝ }
-    ensures circles { λ r. ⌜ circlesOf (now (xs .exit)) (now (ys .exit)) (now (radii .entry)) ≡ packedClusters count (now (numbers .entry)) factor (circlesOf (now (xs .entry)) (now (ys .entry)) (now (radii .entry))) ⌝ }
+    requires { ⌜ ToPack count (now numbers) factor (now xs) (now ys) (now radii) (circlesOf (now xs) (now ys) (now radii)) ⌝ }
+    ensures padding { λ r. ⌜ r ≡ padding (boxesOf count (now (numbers .entry)) (now (xs .entry)) (now (ys .entry)) (now (radii .entry))) factor ⌝ }
+    ensures circles { λ r. ⌜ Become (packedClusters count (now (numbers .entry)) factor)
+        (now (xs .entry)) (now (ys .entry)) (now (radii .entry)) (now (xs .exit)) (now (ys .exit)) ⌝ }
 {
     if count < 2 {
         return 0.0;
@@ -267,11 +290,23 @@ fn in_grid(
     new_xs: &mut [f64; MAX_CIRCLES],
     new_ys: &mut [f64; MAX_CIRCLES],
 ) -> f64
-    requires { ⌜ (length (now ys) ≡ length (now xs)) × (length (now radii) ≡ length (now xs)) × (length (now numbers) ≡ length (now xs)) × Lifted (now radii) × (count ≤ maxCircles) × Numbered count (now numbers) × Packable count (now numbers) (circlesOf (now xs) (now ys) (now radii)) factor × (2 ≤ count) ⌝ }
-    ensures padding { λ r. ⌜ r ≡ padding (boxes count (now (numbers .entry)) (circlesOf (now (xs .entry)) (now (ys .entry)) (now (radii .entry)))) factor ⌝ }
-    ensures circles { λ r. ⌜ circlesOf (now (xs .exit)) (now (ys .exit)) (now (radii .entry)) ≡ packedClusters count (now (numbers .entry)) factor (circlesOf (now (xs .entry)) (now (ys .entry)) (now (radii .entry))) ⌝ }
+    requires { ⌜ ToPack count (now numbers) factor (now xs) (now ys) (now radii) (circlesOf (now xs) (now ys) (now radii)) × (2 ≤ count) ⌝ }
+    ensures padding { λ r. ⌜ r ≡ padding (boxesOf count (now (numbers .entry)) (now (xs .entry)) (now (ys .entry)) (now (radii .entry))) factor ⌝ }
+    ensures circles { λ r. ⌜ Become (packedClusters count (now (numbers .entry)) factor)
+        (now (xs .entry)) (now (ys .entry)) (now (radii .entry)) (now (xs .exit)) (now (ys .exit)) ⌝ }
 {
-    let padding = boxed_front(xs, ys, radii, numbers, count, factor, across, widths, up, heights);
+    let padding = boxed_front(
+        xs,
+        ys,
+        radii,
+        numbers,
+        count,
+        factor,
+        across,
+        widths,
+        up,
+        heights,
+    );
     pack_sides(widths, heights, count, padding, new_xs, new_ys);
     shift(xs, numbers, across, new_xs);
     shift(ys, numbers, up, new_ys);
@@ -290,9 +325,11 @@ fn boxed_front(
     up: &mut [f64],
     heights: &mut [f64],
 ) -> f64
-    requires { ⌜ (length (now ys) ≡ length (now xs)) × (length (now radii) ≡ length (now xs)) × (length (now numbers) ≡ length (now xs)) × (count ≤ maxCircles) × Numbered count (now numbers) × ((length (now across) ≡ maxCircles) × (length (now widths) ≡ maxCircles) × (length (now up) ≡ maxCircles) × (length (now heights) ≡ maxCircles)) ⌝ }
-    ensures lists { λ _. ⌜ BoxLists (boxes count (now (numbers .entry)) (circlesOf (now (xs .entry)) (now (ys .entry)) (now (radii .entry)))) (take count (now (across .exit))) (take count (now (widths .exit))) (take count (now (up .exit))) (take count (now (heights .exit))) ⌝ }
-    ensures padding { λ r. ⌜ r ≡ padding (boxes count (now (numbers .entry)) (circlesOf (now (xs .entry)) (now (ys .entry)) (now (radii .entry)))) factor ⌝ }
+    requires { ⌜ (length (now ys) ≡ length (now xs)) × (length (now radii) ≡ length (now xs)) × (length (now numbers) ≡ length (now xs))
+        × (count ≤ maxCircles) × Numbered count (now numbers) × FullLength (now across) (now widths) (now up) (now heights) ⌝ }
+    ensures lists { λ _. ⌜ BoxLists (boxesOf count (now (numbers .entry)) (now (xs .entry)) (now (ys .entry)) (now (radii .entry)))
+        (take count (now (across .exit))) (take count (now (widths .exit))) (take count (now (up .exit))) (take count (now (heights .exit))) ⌝ }
+    ensures padding { λ r. ⌜ r ≡ padding (boxesOf count (now (numbers .entry)) (now (xs .entry)) (now (ys .entry)) (now (radii .entry))) factor ⌝ }
 {
     boxed(
         xs,
@@ -319,9 +356,11 @@ fn boxed(
     up: &mut [f64],
     heights: &mut [f64],
 ) -> f64
-    requires { ⌜ (length (now ys) ≡ length (now xs)) × (length (now radii) ≡ length (now xs)) × (length (now numbers) ≡ length (now xs)) × (length (now widths) ≡ length (now across)) × (length (now up) ≡ length (now across)) × (length (now heights) ≡ length (now across)) × Numbered (length (now across)) (now numbers) ⌝ }
-    ensures lists { λ _. ⌜ BoxLists (boxes (length (now (across .entry))) (now (numbers .entry)) (circlesOf (now (xs .entry)) (now (ys .entry)) (now (radii .entry)))) (now (across .exit)) (now (widths .exit)) (now (up .exit)) (now (heights .exit)) ⌝ }
-    ensures padding { λ r. ⌜ r ≡ padding (boxes (length (now (across .entry))) (now (numbers .entry)) (circlesOf (now (xs .entry)) (now (ys .entry)) (now (radii .entry)))) factor ⌝ }
+    requires { ⌜ BoxRoom (now xs) (now ys) (now radii) (now numbers) (now across) (now widths) (now up) (now heights) ⌝ }
+    ensures lists { λ _. ⌜ BoxLists (boxesOf (length (now (across .entry))) (now (numbers .entry)) (now (xs .entry)) (now (ys .entry)) (now (radii .entry)))
+        (now (across .exit)) (now (widths .exit)) (now (up .exit)) (now (heights .exit)) ⌝ }
+    ensures padding { λ r. ⌜ r
+        ≡ padding (boxesOf (length (now (across .entry))) (now (numbers .entry)) (now (xs .entry)) (now (ys .entry)) (now (radii .entry))) factor ⌝ }
 {
     cluster_boxes(xs, ys, radii, numbers, across, widths, up, heights);
     padding_of(widths, heights, factor)

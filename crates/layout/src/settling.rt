@@ -1,9 +1,8 @@
 // A layout in its container: the container to the origin, the circles to its middle.
 ghost use mathlib.Core.Path.{_≡_};
-ghost use lib.ListN.{length};
 ghost use Rattle.scope.specs.Container.{centredIn, settled};
-ghost use Rattle.intake.specs.Columns.{circlesOf, Lifted};
 ghost use Rattle.layout.specs.Settling.{off, near, past, pastEither, stays, along, atOrigin, placed};
+ghost use Rattle.layout.specs.Shown.{CircleLists, Become};
 use crate::axis::Range;
 use crate::axis::middle;
 use crate::axis::range_of;
@@ -16,8 +15,8 @@ use shapes::rectangle::Rectangle;
 
 // The circles along with a container that goes to the origin, and then to its middle.
 pub(crate) fn settled(xs: &mut [f64], ys: &mut [f64], radii: &[f64], container: Rectangle)
-    requires { ⌜ (length (now ys) ≡ length (now xs)) × (length (now radii) ≡ length (now xs)) × Lifted (now radii) ⌝ }
-    ensures { λ _. ⌜ circlesOf (now (xs .exit)) (now (ys .exit)) (now (radii .entry)) ≡ settled container (circlesOf (now (xs .entry)) (now (ys .entry)) (now (radii .entry))) .circles ⌝ }
+    requires { ⌜ CircleLists (now xs) (now ys) (now radii) ⌝ }
+    ensures { λ _. ⌜ Become (λ cs. settled container cs .circles) (now (xs .entry)) (now (ys .entry)) (now (radii .entry)) (now (xs .exit)) (now (ys .exit)) ⌝ }
 {
     go_along(xs, ys, container.center.x, container.center.y);
     center_shapes_in_container(xs, ys, radii, container.width, container.height);
@@ -50,8 +49,8 @@ fn center_shapes_in_container(
     width: f64,
     height: f64,
 )
-    requires { ⌜ (length (now ys) ≡ length (now xs)) × (length (now radii) ≡ length (now xs)) × Lifted (now radii) ⌝ }
-    ensures { λ _. ⌜ circlesOf (now (xs .exit)) (now (ys .exit)) (now (radii .entry)) ≡ centredIn (atOrigin width height) (circlesOf (now (xs .entry)) (now (ys .entry)) (now (radii .entry))) ⌝ }
+    requires { ⌜ CircleLists (now xs) (now ys) (now radii) ⌝ }
+    ensures { λ _. ⌜ Become (centredIn (atOrigin width height)) (now (xs .entry)) (now (ys .entry)) (now (radii .entry)) (now (xs .exit)) (now (ys .exit)) ⌝ }
 {
     let across = range_of(xs, radii);
     let up = range_of(ys, radii);

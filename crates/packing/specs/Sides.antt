@@ -3,15 +3,16 @@ use Prim.Native.Nat.{ℕ, _<_}
 use mathlib.Core.Path.{_≡_}
 use mathlib.Core.Bool.{cond}
 use mathlib.Core.List.{List, []}
+use lib.Dec.{eqb}
 use lib.ListN.{length, take}
 use lib.Ieee.{Float}
 use Rattle.shapes.specs.Records.{pointAt, rectangleOf}
 use Rattle.shapes.specs.declared.rectangle.Rectangle.{Rectangle}
-use Rattle.scope.specs.Numbers.{nought}
+use Rattle.scope.specs.Numbers.{nought, golden}
 use Rattle.scope.specs.Runs.{tab}
 use Rattle.scope.specs.Refusals.{tooMany, packRefusal}
-use Rattle.scope.specs.Packing.{Packing, rectangle, widthAt, heightAt, packing, skylinePack}
-use Rattle.intake.specs.Columns.{at}
+use Rattle.scope.specs.Packing.{Packing, rectangle, widthAt, heightAt, packed, packing, skylinePack}
+use Rattle.intake.specs.Columns.{at, overwritten}
 
 -- n boxes of these sides, wherever they stand
 unfoldable pub sided : ℕ → List Float → List Float → List Rectangle
@@ -23,6 +24,17 @@ centreXs rects = tab (length rects) (λ i. rectangle rects i .center .x)
 
 unfoldable pub centreYs : List Rectangle → List Float
 centreYs rects = tab (length rects) (λ i. rectangle rects i .center .y)
+
+-- where the centres of n boxes of these sides come to stand
+abbrev pub packedXs : ℕ → List Float → List Float → Float → List Float
+packedXs n widths heights padding = centreXs (packed golden (sided n widths heights) padding)
+
+abbrev pub packedYs : ℕ → List Float → List Float → Float → List Float
+packedYs n widths heights padding = centreYs (packed golden (sided n widths heights) padding)
+
+-- a list with another one written over its front, or after a refusal as it was
+abbrev pub unlessRefused : ℕ → List Float → List Float → List Float
+unlessRefused r front list = cond (eqb r 0) (overwritten front list) list
 
 -- the number that comes back for n boxes of these sides; with too many, no box is looked at
 unfoldable pub sidesNumber : ℕ → List Float → List Float → Float → ℕ

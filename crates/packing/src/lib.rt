@@ -1,21 +1,21 @@
 // Boxes in a grid whose width and height are near 1.618 to 1: the largest first, row by row.
 // The sides of the boxes stand in two lists, and so do the places that their centres come to.
 ghost use mathlib.Core.Path.{_≡_};
-ghost use mathlib.Core.Bool.{cond, _&&_, _||_};
-ghost use Prim.Native.Nat.{ℕ, _≤_, _<_};
-ghost use lib.Dec.{eqb, ltb};
-ghost use lib.ListN.{getD, length};
+ghost use mathlib.Core.Bool.{_&&_, _||_};
+ghost use Prim.Native.Nat.{_≤_, _<_};
+ghost use lib.Dec.{ltb};
+ghost use lib.ListN.{length};
 ghost use lib.Ieee.{nan, eq};
 ghost use Rattle.scope.specs.Numbers.{_<ᶠ_, _*ᶠ_, nought, golden};
 ghost use Rattle.scope.specs.Runs.{tab, filled};
 ghost use Rattle.scope.specs.Limits.{circleCap};
-ghost use Rattle.scope.specs.Packing.{noRectangle, widthAt, heightAt, columns, columnsAnswer, place, breadth, start, centred, placed, packed, skylinePack};
+ghost use Rattle.scope.specs.Packing.{noRectangle, widthAt, heightAt, columns, columnsAnswer, place, breadth, start, centred, placed, skylinePack};
 ghost use Rattle.promises.proofs.AfterRefusal.{refusedPacking};
 ghost use Rattle.intake.specs.Limits.{maxCircles};
 ghost use Rattle.intake.specs.Columns.{at, overwritten};
 ghost use Rattle.packing.specs.Answers.{counted, packedBoxes};
-ghost use Rattle.packing.specs.Sides.{sided, sidesNumber, sidedPacking, centreXs, centreYs, firstPacking, boxAt};
-ghost use Rattle.packing.specs.Lists.{At, Lined};
+ghost use Rattle.packing.specs.Sides.{sidesNumber, sidedPacking, packedXs, packedYs, unlessRefused, firstPacking, boxAt};
+ghost use Rattle.packing.specs.Lists.{At, Lined, InLines, lineOf, FullLength};
 use intake::causes::number_of;
 use intake::causes::of_count;
 use intake::causes::of_padding;
@@ -164,8 +164,8 @@ pub fn pack_sides(
     ys: &mut [f64; MAX_CIRCLES],
 ) -> u8
     ensures number { λ r. ⌜ r ≡ sidesNumber n (now (widths .entry)) (now (heights .entry)) padding ⌝ }
-    ensures x { λ r. ⌜ now (xs .exit) ≡ cond (eqb r 0) (overwritten (centreXs (packed golden (sided n (now (widths .entry)) (now (heights .entry))) padding)) (now (xs .entry))) (now (xs .entry)) ⌝ }
-    ensures y { λ r. ⌜ now (ys .exit) ≡ cond (eqb r 0) (overwritten (centreYs (packed golden (sided n (now (widths .entry)) (now (heights .entry))) padding)) (now (ys .entry))) (now (ys .entry)) ⌝ }
+    ensures x { λ r. ⌜ now (xs .exit) ≡ unlessRefused r (packedXs n (now (widths .entry)) (now (heights .entry)) padding) (now (xs .entry)) ⌝ }
+    ensures y { λ r. ⌜ now (ys .exit) ≡ unlessRefused r (packedYs n (now (widths .entry)) (now (heights .entry)) padding) (now (ys .entry)) ⌝ }
 {
     pack_lists(widths, heights, n, padding, xs, ys)
 }
@@ -178,10 +178,10 @@ fn pack_lists(
     xs: &mut [f64],
     ys: &mut [f64],
 ) -> u8
-    requires { ⌜ (length (now widths) ≡ maxCircles) × (length (now heights) ≡ maxCircles) × (length (now xs) ≡ maxCircles) × (length (now ys) ≡ maxCircles) ⌝ }
+    requires { ⌜ FullLength (now widths) (now heights) (now xs) (now ys) ⌝ }
     ensures number { λ r. ⌜ r ≡ sidesNumber n (now (widths .entry)) (now (heights .entry)) padding ⌝ }
-    ensures x { λ r. ⌜ now (xs .exit) ≡ cond (eqb r 0) (overwritten (centreXs (packed golden (sided n (now (widths .entry)) (now (heights .entry))) padding)) (now (xs .entry))) (now (xs .entry)) ⌝ }
-    ensures y { λ r. ⌜ now (ys .exit) ≡ cond (eqb r 0) (overwritten (centreYs (packed golden (sided n (now (widths .entry)) (now (heights .entry))) padding)) (now (ys .entry))) (now (ys .entry)) ⌝ }
+    ensures x { λ r. ⌜ now (xs .exit) ≡ unlessRefused r (packedXs n (now (widths .entry)) (now (heights .entry)) padding) (now (xs .entry)) ⌝ }
+    ensures y { λ r. ⌜ now (ys .exit) ≡ unlessRefused r (packedYs n (now (widths .entry)) (now (heights .entry)) padding) (now (ys .entry)) ⌝ }
 {
     let refusal = pack_number(widths, heights, n, padding);
     if refusal != 0 {
@@ -192,9 +192,10 @@ fn pack_lists(
 }
 
 fn in_front(widths: &[f64], heights: &[f64], n: usize, padding: f64, xs: &mut [f64], ys: &mut [f64])
-    requires { ⌜ (n ≤ maxCircles) × (length (now widths) ≡ maxCircles) × (length (now heights) ≡ maxCircles) × (length (now xs) ≡ maxCircles) × (length (now ys) ≡ maxCircles) ⌝ }
-    ensures x { λ _. ⌜ now (xs .exit) ≡ overwritten (centreXs (packed golden (sided n (now (widths .entry)) (now (heights .entry))) padding)) (now (xs .entry)) ⌝ }
-    ensures y { λ _. ⌜ now (ys .exit) ≡ overwritten (centreYs (packed golden (sided n (now (widths .entry)) (now (heights .entry))) padding)) (now (ys .entry)) ⌝ }
+    requires { ⌜ (n ≤ maxCircles) × (length (now widths) ≡ maxCircles) × (length (now heights) ≡ maxCircles)
+        × (length (now xs) ≡ maxCircles) × (length (now ys) ≡ maxCircles) ⌝ }
+    ensures x { λ _. ⌜ now (xs .exit) ≡ overwritten (packedXs n (now (widths .entry)) (now (heights .entry)) padding) (now (xs .entry)) ⌝ }
+    ensures y { λ _. ⌜ now (ys .exit) ≡ overwritten (packedYs n (now (widths .entry)) (now (heights .entry)) padding) (now (ys .entry)) ⌝ }
 {
     in_grid(
         &widths[0..n],
@@ -218,9 +219,10 @@ fn pack_number(widths: &[f64], heights: &[f64], n: usize, padding: f64) -> u8
 // ---- the grid, over lists of one length
 
 fn in_grid(widths: &[f64], heights: &[f64], padding: f64, xs: &mut [f64], ys: &mut [f64])
-    requires { ⌜ (length (now widths) ≤ maxCircles) × (length (now heights) ≡ length (now widths)) × (length (now xs) ≡ length (now widths)) × (length (now ys) ≡ length (now widths)) ⌝ }
-    ensures x { λ _. ⌜ now (xs .exit) ≡ centreXs (packed golden (sided (length (now (widths .entry))) (now (widths .entry)) (now (heights .entry))) padding) ⌝ }
-    ensures y { λ _. ⌜ now (ys .exit) ≡ centreYs (packed golden (sided (length (now (widths .entry))) (now (widths .entry)) (now (heights .entry))) padding) ⌝ }
+    requires { ⌜ (length (now widths) ≤ maxCircles) × (length (now heights) ≡ length (now widths))
+        × (length (now xs) ≡ length (now widths)) × (length (now ys) ≡ length (now widths)) ⌝ }
+    ensures x { λ _. ⌜ now (xs .exit) ≡ packedXs (length (now (widths .entry))) (now (widths .entry)) (now (heights .entry)) padding ⌝ }
+    ensures y { λ _. ⌜ now (ys .exit) ≡ packedYs (length (now (widths .entry))) (now (widths .entry)) (now (heights .entry)) padding ⌝ }
 {
     let k = widths.len();
     let mut areas = [0.0; MAX_CIRCLES];
@@ -255,9 +257,12 @@ fn on_axes(
     breadths: &mut [f64],
     cells: &mut [f64],
 )
-    requires { ⌜ (length (now widths) ≤ maxCircles) × (length (now heights) ≡ length (now widths)) × (length (now xs) ≡ length (now widths)) × (length (now ys) ≡ length (now widths)) × ((length (now areas) ≡ length (now widths)) × (length (now columns) ≡ length (now widths)) × (length (now rows) ≡ length (now widths)) × (length (now breadths) ≡ length (now widths)) × (length (now cells) ≡ length (now widths))) ⌝ }
-    ensures x { λ _. ⌜ now (xs .exit) ≡ centreXs (packed golden (sided (length (now (widths .entry))) (now (widths .entry)) (now (heights .entry))) padding) ⌝ }
-    ensures y { λ _. ⌜ now (ys .exit) ≡ centreYs (packed golden (sided (length (now (widths .entry))) (now (widths .entry)) (now (heights .entry))) padding) ⌝ }
+    requires { ⌜ (length (now widths) ≤ maxCircles) × (length (now heights) ≡ length (now widths))
+        × (length (now xs) ≡ length (now widths)) × (length (now ys) ≡ length (now widths))
+        × ((length (now areas) ≡ length (now widths)) × (length (now columns) ≡ length (now widths)) × (length (now rows) ≡ length (now widths))
+        × (length (now breadths) ≡ length (now widths)) × (length (now cells) ≡ length (now widths))) ⌝ }
+    ensures x { λ _. ⌜ now (xs .exit) ≡ packedXs (length (now (widths .entry))) (now (widths .entry)) (now (heights .entry)) padding ⌝ }
+    ensures y { λ _. ⌜ now (ys .exit) ≡ packedYs (length (now (widths .entry))) (now (widths .entry)) (now (heights .entry)) padding ⌝ }
 {
     areas_of(widths, heights, areas);
     lines_of(areas, columns, rows);
@@ -279,7 +284,8 @@ fn areas_of(widths: &[f64], heights: &[f64], areas: &mut [f64])
 // The column and the row of each box, by its place among the boxes.
 fn lines_of(areas: &[f64], columns: &mut [usize], rows: &mut [usize])
     requires { ⌜ (length (now areas) ≤ maxCircles) × (length (now columns) ≡ length (now areas)) × (length (now rows) ≡ length (now areas)) ⌝ }
-    ensures { λ _. ⌜ Lined (length (now (columns .entry))) (place (length (now (columns .entry))) (at (now (areas .entry)))) (now (columns .exit)) (now (rows .exit)) ⌝ }
+    ensures { λ _. ⌜ Lined (length (now (columns .entry))) (place (length (now (columns .entry))) (at (now (areas .entry))))
+        (now (columns .exit)) (now (rows .exit)) ⌝ }
 {
     let count = columns_of(areas.len());
     let mut i: usize = 0;
@@ -325,8 +331,10 @@ fn axis(
     breadths: &mut [f64],
     cells: &mut [f64],
 )
-    requires { ⌜ (length (now lines) ≡ length (now sides)) × (length (now centres) ≡ length (now sides)) × (length (now breadths) ≡ length (now sides)) × (length (now cells) ≡ length (now sides)) × ((i : ℕ) → i < length (now sides) → getD (now lines) i 0 < length (now sides)) ⌝ }
-    ensures { λ _. ⌜ At (length (now (sides .entry))) (now (centres .exit)) nan (placed (length (now (sides .entry))) (λ b. getD (now (lines .entry)) b 0) (at (now (sides .entry))) padding) ⌝ }
+    requires { ⌜ (length (now lines) ≡ length (now sides)) × (length (now centres) ≡ length (now sides)) × (length (now breadths) ≡ length (now sides))
+        × (length (now cells) ≡ length (now sides)) × InLines (length (now sides)) (now lines) ⌝ }
+    ensures { λ _. ⌜ At (length (now (sides .entry))) (now (centres .exit)) nan
+        (placed (length (now (sides .entry))) (lineOf (now (lines .entry))) (at (now (sides .entry))) padding) ⌝ }
 {
     breadths_of(sides, lines, padding, breadths);
     starts_of(breadths, cells);
@@ -335,8 +343,11 @@ fn axis(
 
 // Each box in the middle of its cell.
 fn centres_of(sides: &[f64], lines: &[usize], breadths: &[f64], cells: &[f64], centres: &mut [f64])
-    requires { ⌜ (length (now lines) ≡ length (now sides)) × (length (now breadths) ≡ length (now sides)) × (length (now cells) ≡ length (now sides)) × (length (now centres) ≡ length (now sides)) × ((i : ℕ) → i < length (now sides) → getD (now lines) i 0 < length (now sides)) ⌝ }
-    ensures { λ _. ⌜ At (length (now (sides .entry))) (now (centres .exit)) nan (λ i. centred (at (now (cells .entry)) (getD (now (lines .entry)) i 0)) (at (now (breadths .entry)) (getD (now (lines .entry)) i 0)) (at (now (sides .entry)) i)) ⌝ }
+    requires { ⌜ (length (now lines) ≡ length (now sides)) × (length (now breadths) ≡ length (now sides))
+        × (length (now cells) ≡ length (now sides)) × (length (now centres) ≡ length (now sides)) × InLines (length (now sides)) (now lines) ⌝ }
+    ensures { λ _. ⌜ At (length (now (sides .entry))) (now (centres .exit)) nan
+        (λ i. centred (at (now (cells .entry)) (lineOf (now (lines .entry)) i)) (at (now (breadths .entry)) (lineOf (now (lines .entry)) i))
+        (at (now (sides .entry)) i)) ⌝ }
 {
     let mut i: usize = 0;
     while i < sides.len() {
@@ -349,8 +360,9 @@ fn centres_of(sides: &[f64], lines: &[usize], breadths: &[f64], cells: &[f64], c
 
 // The width of each line: of the boxes in it, the largest side plus padding, from 0.
 fn breadths_of(sides: &[f64], lines: &[usize], padding: f64, breadths: &mut [f64])
-    requires { ⌜ (length (now lines) ≡ length (now sides)) × (length (now breadths) ≡ length (now sides)) × ((i : ℕ) → i < length (now sides) → getD (now lines) i 0 < length (now sides)) ⌝ }
-    ensures { λ _. ⌜ At (length (now (sides .entry))) (now (breadths .exit)) nan (breadth (length (now (sides .entry))) (λ b. getD (now (lines .entry)) b 0) (at (now (sides .entry))) padding) ⌝ }
+    requires { ⌜ (length (now lines) ≡ length (now sides)) × (length (now breadths) ≡ length (now sides)) × InLines (length (now sides)) (now lines) ⌝ }
+    ensures { λ _. ⌜ At (length (now (sides .entry))) (now (breadths .exit)) nan
+        (breadth (length (now (sides .entry))) (lineOf (now (lines .entry))) (at (now (sides .entry))) padding) ⌝ }
 {
     clear(breadths);
     let mut i: usize = 0;
