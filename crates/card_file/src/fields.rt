@@ -10,8 +10,8 @@ ghost use Rattle.card_file.specs.Parts.{StartsAt, bodyPlace};
 use crate::words::byte_at;
 use crate::words::word_at;
 use bits::float_of;
-use shapes::point::Point;
 use shapes::circle::Circle;
+use shapes::point::Point;
 
 // What a field holds, or the refusal's number.
 pub enum Field {

@@ -21,7 +21,7 @@ ghost use Rattle.intake.specs.CauseWords.{front};
 ghost use Rattle.intake.specs.Firsts.{FirstFrom};
 ghost use Rattle.clustering.specs.Answers.{grouped, NumbersByChains, firstGrouping, shownGrouping};
 ghost use Rattle.clustering.specs.Table.{Row, Shows};
-use geometry::circle::absolute;
+use geometry::lengths::absolute;
 use geometry::lengths::magnitude;
 use geometry::lengths::meets;
 use intake::causes::number_of;
@@ -188,7 +188,8 @@ fn link_regions(m: &mut Table, n: usize, masks: &[u64], areas: &[f64], tolerance
 
 // Whether two circles overlap does not depend on their order, so row i takes what the rows before it have found.
 fn link_circles(m: &mut Table, xs: &[f64], ys: &[f64], radii: &[f64])
-    requires { ⌜ (length (now xs) ≤ maxCircles) × (length (now ys) ≡ length (now xs)) × (length (now radii) ≡ length (now xs)) × Shows (length (now xs)) (now m) eqb ⌝ }
+    requires { ⌜ (length (now xs) ≤ maxCircles) × (length (now ys) ≡ length (now xs)) × (length (now radii) ≡ length (now xs))
+        × Shows (length (now xs)) (now m) eqb ⌝ }
     ensures { λ _. ⌜ Shows (length (now (xs .entry))) (now (m .exit)) (linkedByCircles (circlesOf (now (xs .entry)) (now (ys .entry)) (now (radii .entry)))) ⌝ }
 {
     let n = xs.len();
@@ -255,7 +256,8 @@ fn next_of(mask: u64, from: usize) -> usize
 // Joins a row of marks to row i, past column n too, where nothing is looked at: so it is a few wide operations.
 fn join(m: &mut Table, i: usize, row: &[u8; MAX_CIRCLES])
     requires { ⌜ i < maxCircles ⌝ }
-    ensures { λ _. ⌜ ((n : ℕ) (f : ℕ → ℕ → Bool) (p : ℕ → Bool) → n ≤ maxCircles → i < n → Row n (now (row .entry)) p → Shows n (now (m .entry)) f → Shows n (now (m .exit)) (λ a b. f a b || (eqb a i && p b))) ⌝ }
+    ensures { λ _. ⌜ ((n : ℕ) (f : ℕ → ℕ → Bool) (p : ℕ → Bool) → n ≤ maxCircles → i < n → Row n (now (row .entry)) p
+        → Shows n (now (m .entry)) f → Shows n (now (m .exit)) (λ a b. f a b || (eqb a i && p b))) ⌝ }
 {
     let mut j: usize = 0;
     while j < MAX_CIRCLES {

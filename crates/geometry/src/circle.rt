@@ -10,7 +10,6 @@ ghost use Rattle.scope.specs.Distance.{
   intersectsAnswer,
   circleDistanceAnswer,
 };
-ghost use Rattle.scope.specs.Numbers.{abs};
 ghost use Rattle.scope.specs.Refusals.{pairRefusal, circlePointRefusal};
 ghost use Rattle.geometry.specs.Answers.{measured, decided};
 use crate::lengths::crossing;
@@ -111,17 +110,4 @@ fn raw_intersects(a: Circle, b: Circle) -> bool
     ensures { λ r. ⌜ r ≡ intersects a b ⌝ }
 {
     crossing(raw_distance(a.center, b.center), a.radius, b.radius)
-}
-
-// The size of a number, its sign taken off.
-pub fn absolute(x: f64) -> f64
-    ensures { λ r. ⌜ r ≡ abs x ⌝ }
-{
-    if x < 0.0 {
-        return -x;
-    }
-    if x == 0.0 {
-        return 0.0;
-    }
-    x
 }

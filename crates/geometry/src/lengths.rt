@@ -1,10 +1,34 @@
 // Lengths, and how two circles lie whose centres are so far apart: arithmetic of any numbers, infinities and NaNs too.
 ghost use mathlib.Core.Path.{_≡_};
 ghost use mathlib.Core.Bool.{_&&_, _||_};
+ghost use lib.Ieee.{binary64};
+ghost use Rattle.rounding.specs.Root.{root};
 ghost use Rattle.scope.specs.Numbers.{_+ᶠ_, _-ᶠ_, _<ᶠ_, _≤ᶠ_, abs};
 ghost use Rattle.scope.specs.Offset.{magnitude};
-use crate::circle::absolute;
-use crate::point::root_or_nan;
+use root::answers::Root;
+
+// The size of a number, its sign taken off.
+pub fn absolute(x: f64) -> f64
+    ensures { λ r. ⌜ r ≡ abs x ⌝ }
+{
+    if x < 0.0 {
+        return -x;
+    }
+    if x == 0.0 {
+        return 0.0;
+    }
+    x
+}
+
+// The root, and NaN where there is none.
+pub fn root_or_nan(x: f64) -> f64
+    ensures { λ r. ⌜ r ≡ root binary64 x ⌝ }
+{
+    match root::root(x) {
+        Root::Of(r) => r,
+        Root::Refused(_) => 0.0 / 0.0,
+    }
+}
 
 // The root of the sum of the squares, each step rounded.
 pub fn magnitude(x: f64, y: f64) -> f64

@@ -1,14 +1,11 @@
 // The distance of two points.
 ghost use mathlib.Core.Path.{_≡_};
-ghost use lib.Ieee.{binary64};
-ghost use Rattle.rounding.specs.Root.{root};
 ghost use Rattle.scope.specs.Distance.{distance, distanceAnswer};
 ghost use Rattle.scope.specs.Refusals.{pointsRefusal};
 ghost use Rattle.geometry.specs.Answers.{measured};
 use crate::lengths::magnitude;
 use intake::causes::number_of;
 use intake::causes::of_points;
-use root::answers::Root;
 use shapes::point::Point;
 
 // A length, or a refusal's number.
@@ -38,14 +35,4 @@ pub(crate) fn raw_distance(p: Point, q: Point) -> f64
     ensures { λ r. ⌜ r ≡ distance p q ⌝ }
 {
     magnitude(p.x - q.x, p.y - q.y)
-}
-
-// The root, and NaN where there is none.
-pub fn root_or_nan(x: f64) -> f64
-    ensures { λ r. ⌜ r ≡ root binary64 x ⌝ }
-{
-    match root::root(x) {
-        Root::Of(r) => r,
-        Root::Refused(_) => 0.0 / 0.0,
-    }
 }

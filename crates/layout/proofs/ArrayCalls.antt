@@ -144,6 +144,6 @@ module _ (n : ℕ) (cs : List Circle) (long : length cs ≡ maxCircles) (zs : Li
         by-count true h = let one = placed-number h in rw (h, written-none (r .refusal) n (λ z. omega arith), recentred-none xs′ ys′ cs, placed-many h)
         by-count false h =
             let l : Settles (take n cs) container r (recentred (writtenOf (r .refusal) n) xs′ ys′ (take n cs)) =
-                  subst (λ (k : ℕ). Settles (take n cs) container r (recentred (writtenOf (r .refusal) k) xs′ ys′ (take n cs))) (length-take-le n cs (enough h))
-                  (settled-settles (take n cs) zs container r xs′ ys′ (settled-as-run h)) in
+            subst (λ (k : ℕ). Settles (take n cs) container r (recentred (writtenOf (r .refusal) k) xs′ ys′ (take n cs))) (length-take-le n cs (enough h))
+            (settled-settles (take n cs) zs container r xs′ ys′ (settled-as-run h)) in
             rw (h, written-first (r .refusal) n xs′ ys′ cs (enough h), l .1, ap (λ (p : Placed). p .refusal) (l .0), ap (λ (p : Placed). p .container) (l .0))

@@ -123,8 +123,8 @@ module _ (n : ℕ) (xs ys rs : List Float) (factor : Float) (masks : List ℕ) (
         → circlesOf xs₁ ys₁ (take n rs) ≡ arranged golden cs factor (regions masks areas) .circles → Laid xs ys rs n factor masks areas r (xs₁ ++ drop (n - 0) xs) (ys₁ ++ drop (n - 0) ys)
     laid-accepted doubles r xs₁ ys₁ long-x long-y is shows =
         let again : front n (xs₁ ++ drop (n - 0) xs) (ys₁ ++ drop (n - 0) ys) rs ≡ arranged golden cs factor (regions masks areas) .circles =
-            rw (take-at xs₁ (drop (n - 0) xs) n long-x, take-at ys₁ (drop (n - 0) ys) n long-y) shows in
+        rw (take-at xs₁ (drop (n - 0) xs) n long-x, take-at ys₁ (drop (n - 0) ys) n long-y) shows in
         let all = layout-answers cs factor masks areas .on-acceptance h in
         let kept : Promises bound cs (regions masks areas) (arranged golden cs factor (regions masks areas) .result) (arranged golden cs factor (regions masks areas) .circles) =
-            subst (λ (l : Layout). Promises bound cs (regions masks areas) (l .result) (l .circles)) all (unfold Demand3 in layout-promises cs factor masks areas doubles h) in
+        subst (λ (l : Layout). Promises bound cs (regions masks areas) (l .result) (l .circles)) all (unfold Demand3 in layout-promises cs factor masks areas doubles h) in
         record { result = is ∙ rw whole; long = λ z. rw (take-at xs₁ (drop (n - 0) xs) n long-x) long-x; circles = λ z. again ∙ rw whole; promises = λ z. rw (is, again) kept }

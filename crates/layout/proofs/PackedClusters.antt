@@ -49,9 +49,13 @@ length-centre-ys l = length-tab (length l) (λ a. rectangle l a .center .y)
 pub boxes-in-front : (count m : ℕ) (numbers : List ℕ) (cs : List Circle) (a w u h a₀ w₀ u₀ h₀ : List Float) → m ≡ count → BoxLists (boxes m numbers cs) a w u h
     → BoxLists (boxes count numbers cs) (take count (a ++ drop (count - 0) a₀)) (take count (w ++ drop (count - 0) w₀)) (take count (u ++ drop (count - 0) u₀)) (take count (h ++ drop (count - 0) h₀))
 boxes-in-front count m numbers cs a w u h a₀ w₀ u₀ h₀ e l =
-    rw
-    (part-written count a a₀ (of-length centreXs length-centre-xs count m numbers cs a e (l .across)), part-written count w w₀ (of-length widthsOf length-widths count m numbers cs w e (l .wide)),
-    part-written count u u₀ (of-length centreYs length-centre-ys count m numbers cs u e (l .up)), part-written count h h₀ (of-length heightsOf length-heights count m numbers cs h e (l .high)), ← e) l
+    rw (
+      part-written count a a₀ (of-length centreXs length-centre-xs count m numbers cs a e (l .across)),
+      part-written count w w₀ (of-length widthsOf length-widths count m numbers cs w e (l .wide)),
+      part-written count u u₀ (of-length centreYs length-centre-ys count m numbers cs u e (l .up)),
+      part-written count h h₀ (of-length heightsOf length-heights count m numbers cs h e (l .high)),
+      ← e,
+    ) l
 
 -- ---- one cluster, or none
 pub few-clusters-stay : (count : ℕ) (numbers : List ℕ) (cs : List Circle) (factor : Float) → count < 2

@@ -95,8 +95,8 @@ module _ (cs : List Circle) (zs : List Float) where
     unfolding Answered frontLayout refusedLayout
     laid-answered =
         let number : r .refusal ≡ unlessMany n 1 (layoutRefusal (front n xs ys rs) factor masks areas) =
-              ap (λ (o : Outcome). o .refusal) result-said ∙ chosen (λ (o : Outcome). o .refusal) (tooMany n) (refusedLayout 1 [] .result) (layout (front n xs ys rs) factor masks areas .result)
-              ∙ ap (λ (k : ℕ). cond (tooMany n) 1 k) (layout-answers (front n xs ys rs) factor masks areas .says) in
+        ap (λ (o : Outcome). o .refusal) result-said ∙ chosen (λ (o : Outcome). o .refusal) (tooMany n) (refusedLayout 1 [] .result) (layout (front n xs ys rs) factor masks areas .result)
+        ∙ ap (λ (k : ℕ). cond (tooMany n) 1 k) (layout-answers (front n xs ys rs) factor masks areas .says) in
         (number, λ z. e .circles z ∙ rw (few-accepted n _ (r .refusal) number z), e .long)
 
     pub laid-fits : (writtenOf (r .refusal) n ≤ n) × (writtenOf (r .refusal) n ≤ maxCircles)
@@ -104,10 +104,11 @@ module _ (cs : List Circle) (zs : List Float) where
 
     pub laid-lays : Lays cs factor masks areas r (recentred (writtenOf (r .refusal) n) xs′ ys′ cs)
     laid-lays =
-        let by = layout-answering factor masks areas in
-        (of-run cs (front n xs ys rs) (λ l. layout l factor masks areas .result) (refusedLayout 1 [] .result) (resultOf r) (run-back cs zs) (many-result factor masks areas cs) result-said,
-        answered-run cs zs by (r .refusal) xs′ ys′ laid-answered,
-        λ z. subst (λ (l : List Circle). Promises bound l (regions masks areas) (resultOf r) (recentred (writtenOf (r .refusal) n) xs′ ys′ cs)) (run-back cs zs (not-many cs zs by (r .refusal) xs′ ys′ laid-answered z)) (rw (answered-shown cs zs by (r .refusal) xs′ ys′ laid-answered z) (e .promises z)))
+        let by = layout-answering factor masks areas in (
+          of-run cs (front n xs ys rs) (λ l. layout l factor masks areas .result) (refusedLayout 1 [] .result) (resultOf r) (run-back cs zs) (many-result factor masks areas cs) result-said,
+          answered-run cs zs by (r .refusal) xs′ ys′ laid-answered,
+          λ z. subst (λ (l : List Circle). Promises bound l (regions masks areas) (resultOf r) (recentred (writtenOf (r .refusal) n) xs′ ys′ cs)) (run-back cs zs (not-many cs zs by (r .refusal) xs′ ys′ laid-answered z)) (rw (answered-shown cs zs by (r .refusal) xs′ ys′ laid-answered z) (e .promises z)),
+        )
 
   -- ---- the container
   module _ (container : Rectangle) (r : Placed) (xs′ ys′ : List Float) (e : SettledAt xs ys rs n container r xs′ ys′) where
@@ -122,8 +123,8 @@ module _ (cs : List Circle) (zs : List Float) where
     unfolding Answered frontContained
     settled-answered =
         let number : r .refusal ≡ unlessMany n 1 (containerRefusal (front n xs ys rs) container) =
-              ap (λ (o : Placed). o .refusal) placed-said ∙ chosen (λ (o : Placed). o .refusal) (tooMany n) many (placedOf (contained (front n xs ys rs) container))
-              ∙ ap (λ (k : ℕ). cond (tooMany n) 1 k) (container-answers (front n xs ys rs) container .says) in
+        ap (λ (o : Placed). o .refusal) placed-said ∙ chosen (λ (o : Placed). o .refusal) (tooMany n) many (placedOf (contained (front n xs ys rs) container))
+        ∙ ap (λ (k : ℕ). cond (tooMany n) 1 k) (container-answers (front n xs ys rs) container .says) in
         (number, λ z. e .circles z ∙ rw (few-accepted n _ (r .refusal) number z), e .long)
 
     pub settled-fits : (writtenOf (r .refusal) n ≤ n) × (writtenOf (r .refusal) n ≤ maxCircles)

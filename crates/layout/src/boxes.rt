@@ -15,7 +15,7 @@ ghost use Rattle.layout.specs.ClusterBoxes.{
 };
 ghost use Rattle.layout.specs.Shown.{boxesOf, BoxRoom};
 use crate::axis::middle;
-use geometry::point::root_or_nan;
+use geometry::lengths::root_or_nan;
 use shapes::extremes::maximum;
 use shapes::extremes::minimum;
 

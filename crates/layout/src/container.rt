@@ -20,7 +20,6 @@ use intake::limits::MAX_CIRCLES;
 use intake::runs::split;
 use intake::runs::split_array;
 use shapes::circle::Circle;
-use shapes::point::Point;
 use shapes::rectangle::Rectangle;
 
 // A refusal's number or 0, and the container and the circles: as they were given where the call is refused.
@@ -42,7 +41,8 @@ pub struct Placed {
 // Rewrites the centres of a lent run. A refused run is not written to.
 // Refused: too many circles (1), a centre (3), a radius (4), a side (7).
 pub fn normalize_layout_with_container(circles: &mut [Circle], container: Rectangle) -> Placed
-    ensures { λ r. ⌜ (r ≡ placedOf (contained (now (circles .entry)) container)) × (now (circles .exit) ≡ contained (now (circles .entry)) container .circles) ⌝ }
+    ensures { λ r. ⌜ (r ≡ placedOf (contained (now (circles .entry)) container))
+        × (now (circles .exit) ≡ contained (now (circles .entry)) container .circles) ⌝ }
 {
     let mut xs = [0.0; MAX_CIRCLES];
     let mut ys = [0.0; MAX_CIRCLES];

@@ -23,8 +23,8 @@ use crate::axis::Range;
 use crate::axis::middle;
 use crate::axis::nothing;
 use crate::axis::widened;
-use geometry::circle::absolute;
-use geometry::point::root_or_nan;
+use geometry::lengths::absolute;
+use geometry::lengths::root_or_nan;
 use shapes::extremes::maximum;
 
 struct Turn {

@@ -5,8 +5,8 @@ ghost use lib.ListN.{length};
 ghost use Rattle.intake.specs.Limits.{maxCircles};
 ghost use Rattle.layout.specs.Recentred.{recentred, writtenOf};
 use intake::limits::MAX_CIRCLES;
-use shapes::point::Point;
 use shapes::circle::Circle;
+use shapes::point::Point;
 
 // Writes the first `count` centres over those of a run; every other field stays as it is.
 pub(crate) fn join(

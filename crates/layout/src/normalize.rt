@@ -39,7 +39,6 @@ use intake::runs::split;
 use intake::runs::split_array;
 use packing::pack_sides;
 use shapes::circle::Circle;
-use shapes::point::Point;
 
 // Document 01's result: a refusal's number or 0, the clusters, the mask of the moved circles, and the padding. What is not used is 0.
 #[repr(C)]

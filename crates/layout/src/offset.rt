@@ -39,6 +39,7 @@ ghost use Rattle.scope.specs.Offset.{
 };
 ghost use Rattle.intake.specs.Columns.{circlesOf, Lifted};
 ghost use Rattle.layout.specs.Offsets.{numbered, moved, parentAt, ParentsOf, moment};
+ghost use Rattle.layout.specs.Shown.{partedOf};
 use geometry::lengths::magnitude;
 use geometry::lengths::meets;
 use geometry::lengths::within;
@@ -175,7 +176,8 @@ fn contained_child_parent(n: usize, masks: &[u64], areas: &[f64], tol: f64, i: u
 fn parent_of(n: usize, masks: &[u64], areas: &[f64], tol: f64, i: usize) -> usize
     requires { ⌜ (n ≤ 64) × (i < n) × (length (now masks) ≡ length (now areas)) ⌝ }
     ensures bound { λ r. ⌜ r ≤ n ⌝ }
-    ensures is { λ r. ⌜ numbered n r ≡ ifSmaller (regions (now (masks .entry)) (now (areas .entry))) i (containedChildParent n (regions (now (masks .entry)) (now (areas .entry))) tol i) ⌝ }
+    ensures is { λ r. ⌜ numbered n r ≡ ifSmaller (regions (now (masks .entry)) (now (areas .entry))) i
+        (containedChildParent n (regions (now (masks .entry)) (now (areas .entry))) tol i) ⌝ }
 {
     let p = contained_child_parent(n, masks, areas, tol, i);
     if p >= n {
@@ -191,7 +193,8 @@ fn parent_of(n: usize, masks: &[u64], areas: &[f64], tol: f64, i: usize) -> usiz
 fn find_parents(masks: &[u64], areas: &[f64], tol: f64, parents: &mut [u16]) -> bool
     requires { ⌜ (length (now parents) ≤ 64) × (length (now masks) ≡ length (now areas)) × (tol ≡ tolerance (regions (now masks) (now areas))) ⌝ }
     ensures all { λ r. ⌜ ParentsOf (length (now (parents .entry))) (regions (now (masks .entry)) (now (areas .entry))) (now (parents .exit)) ⌝ }
-    ensures none { λ r. ⌜ (r ≡ false → (i : ℕ) → i < length (now (parents .entry)) → parentAt (length (now (parents .entry))) (now (parents .exit)) i ≡ none) ⌝ }
+    ensures none { λ r. ⌜ (r ≡ false → (i : ℕ) → i < length (now (parents .entry))
+        → parentAt (length (now (parents .entry))) (now (parents .exit)) i ≡ none) ⌝ }
 {
     let n = parents.len();
     let mut any = false;
@@ -417,8 +420,13 @@ fn only_child(parents: &[u16], p: usize) -> bool
 
 // Moves circle i if it is its parent's only child: of several, one could be moved onto another. Whether it was moved.
 fn tried(xs: &mut [f64], ys: &mut [f64], radii: &[f64], parents: &[u16], i: usize) -> bool
-    requires { ⌜ (length (now ys) ≡ length (now xs)) × (length (now radii) ≡ length (now xs)) × (length (now parents) ≡ length (now xs)) × (i < length (now xs)) × Lifted (now radii) ⌝ }
-    ensures { λ r. ⌜ (let n = length (now (xs .entry)) in let before = circlesOf (now (xs .entry)) (now (ys .entry)) (now (radii .entry)) in let after = circlesOf (now (xs .exit)) (now (ys .exit)) (now (radii .entry)) in (rs : List Region) (mask : ℕ) → ParentsOf n rs (now (parents .entry)) → moment after (cond r (mask + 2 ^ i) mask) ≡ tried (allParents n rs) (moment before mask) i (parentAt n (now (parents .entry)) i)) ⌝ }
+    requires { ⌜ (length (now ys) ≡ length (now xs)) × (length (now radii) ≡ length (now xs)) × (length (now parents) ≡ length (now xs))
+        × (i < length (now xs)) × Lifted (now radii) ⌝ }
+    ensures { λ r. ⌜ (let n = length (now (xs .entry)) in
+        let before = circlesOf (now (xs .entry)) (now (ys .entry)) (now (radii .entry)) in
+        let after = circlesOf (now (xs .exit)) (now (ys .exit)) (now (radii .entry)) in
+        (rs : List Region) (mask : ℕ) → ParentsOf n rs (now (parents .entry))
+        → moment after (cond r (mask + 2 ^ i) mask) ≡ tried (allParents n rs) (moment before mask) i (parentAt n (now (parents .entry)) i)) ⌝ }
 {
     let p = wide(parents[i]);
     if p >= xs.len() {
@@ -440,8 +448,11 @@ fn tried(xs: &mut [f64], ys: &mut [f64], radii: &[f64], parents: &[u16], i: usiz
 
 // The circles are tried in rising order, each where the others stand by then. The mask of those that were moved.
 fn all_tried(xs: &mut [f64], ys: &mut [f64], radii: &[f64], parents: &[u16]) -> u64
-    requires { ⌜ (length (now ys) ≡ length (now xs)) × (length (now radii) ≡ length (now xs)) × (length (now parents) ≡ length (now xs)) × (2 ≤ length (now xs)) × (length (now xs) ≤ 64) × Lifted (now radii) ⌝ }
-    ensures { λ r. ⌜ ((rs : List Region) → ParentsOf (length (now (xs .entry))) rs (now (parents .entry)) → moment (circlesOf (now (xs .exit)) (now (ys .exit)) (now (radii .entry))) r ≡ offset (circlesOf (now (xs .entry)) (now (ys .entry)) (now (radii .entry))) rs) ⌝ }
+    requires { ⌜ (length (now ys) ≡ length (now xs)) × (length (now radii) ≡ length (now xs)) × (length (now parents) ≡ length (now xs))
+        × (2 ≤ length (now xs)) × (length (now xs) ≤ 64) × Lifted (now radii) ⌝ }
+    ensures { λ r. ⌜ ((rs : List Region) → ParentsOf (length (now (xs .entry))) rs (now (parents .entry))
+        → moment (circlesOf (now (xs .exit)) (now (ys .exit)) (now (radii .entry))) r
+        ≡ offset (circlesOf (now (xs .entry)) (now (ys .entry)) (now (radii .entry))) rs) ⌝ }
 {
     let mut mask: u64 = 0;
     let mut i: usize = 0;
@@ -464,9 +475,11 @@ pub(crate) fn offset_contained_children(
     tol: f64,
     parents: &mut [u16],
 ) -> u64
-    requires { ⌜ (length (now ys) ≡ length (now xs)) × (length (now radii) ≡ length (now xs)) × (length (now parents) ≡ length (now xs)) × (length (now xs) ≤ 64) × (length (now masks) ≡ length (now areas)) × Lifted (now radii) × (tol ≡ tolerance (regions (now masks) (now areas))) ⌝ }
-    ensures circles { λ r. ⌜ circlesOf (now (xs .exit)) (now (ys .exit)) (now (radii .entry)) ≡ offset (circlesOf (now (xs .entry)) (now (ys .entry)) (now (radii .entry))) (regions (now (masks .entry)) (now (areas .entry))) .circles ⌝ }
-    ensures mask { λ r. ⌜ r ≡ offset (circlesOf (now (xs .entry)) (now (ys .entry)) (now (radii .entry))) (regions (now (masks .entry)) (now (areas .entry))) .mask ⌝ }
+    requires { ⌜ (length (now ys) ≡ length (now xs)) × (length (now radii) ≡ length (now xs)) × (length (now parents) ≡ length (now xs))
+        × (length (now xs) ≤ 64) × (length (now masks) ≡ length (now areas)) × Lifted (now radii) × (tol ≡ tolerance (regions (now masks) (now areas))) ⌝ }
+    ensures circles { λ r. ⌜ circlesOf (now (xs .exit)) (now (ys .exit)) (now (radii .entry))
+        ≡ partedOf (now (xs .entry)) (now (ys .entry)) (now (radii .entry)) (now (masks .entry)) (now (areas .entry)) .circles ⌝ }
+    ensures mask { λ r. ⌜ r ≡ partedOf (now (xs .entry)) (now (ys .entry)) (now (radii .entry)) (now (masks .entry)) (now (areas .entry)) .mask ⌝ }
     ensures lengths { λ r. ⌜ (length (now (xs .exit)) ≡ length (now (xs .entry))) × (length (now (ys .exit)) ≡ length (now (ys .entry))) ⌝ }
 {
     if xs.len() < 2 {

@@ -8,7 +8,7 @@ use crate::axis::middle;
 use crate::axis::range_of;
 use crate::axis::to_origin;
 use crate::axis::translate;
-use geometry::circle::absolute;
+use geometry::lengths::absolute;
 use shapes::extremes::maximum;
 use shapes::point::Point;
 use shapes::rectangle::Rectangle;

@@ -2,8 +2,8 @@
 use crate::read;
 use shapes::bounds::Bounds;
 use shapes::bounds::Overlap;
-use shapes::point::Point;
 use shapes::circle::Circle;
+use shapes::point::Point;
 use shapes::rectangle::Rectangle;
 
 // Two boxes and a radius; the union, whether and what they share, width, height and area, the lifted radius, the box of the circle and that of the rectangle.

@@ -1,13 +1,12 @@
 // Column counts, packing and the container call.
 use crate::groups;
 use crate::read;
+use layout::container;
+use layout::container::InContainer;
 use packing;
 use packing::ColumnCount;
 use packing::Packed;
-use layout::container;
-use layout::container::InContainer;
 use shapes::point::Point;
-use shapes::circle::Circle;
 use shapes::rectangle::Rectangle;
 ghost use Prim.Native.Nat.{_≤_};
 

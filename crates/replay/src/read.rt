@@ -1,8 +1,8 @@
 // Numbers of a body. What lies past its end counts as 0; a body of a wrong length is refused before.
 ghost use Prim.Native.Nat.{_<_, _^_};
 use shapes::bounds::Bounds;
-use shapes::point::Point;
 use shapes::circle::Circle;
+use shapes::point::Point;
 use shapes::rectangle::Rectangle;
 
 pub fn byte(body: &[u8], at: usize) -> u8 {

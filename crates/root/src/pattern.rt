@@ -1,5 +1,4 @@
 // A pattern taken apart: 53 or 54 digits, and an exponent that is even.
-ghost use mathlib.Core.Path.{_≡_};
 ghost use Prim.Native.Nat.{_^_, _<_};
 ghost use Rattle.root.specs.Parts.{infinity, IsNormal, IsSplit};
 

@@ -14,8 +14,8 @@ use card_file::fields::Field;
 use card_file::fields::HEAD_LENGTH;
 use card_file::fields::field_body;
 use card_file::fields::read_field;
-use shapes::point::Point;
 use shapes::circle::Circle;
+use shapes::point::Point;
 
 // The field, and its body as a place in the file and a length: both 0 where the field is refused.
 #[no_mangle]

@@ -18,8 +18,8 @@ use geometry::circle::Decided;
 use geometry::point::Measured;
 use packing::ColumnCount;
 use root::answers::Root;
-use shapes::point::Point;
 use shapes::circle::Circle;
+use shapes::point::Point;
 
 #[no_mangle]
 pub extern "C" fn rundhefja_root(x: f64) -> Length

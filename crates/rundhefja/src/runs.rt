@@ -10,15 +10,15 @@ ghost use Rattle.promises.specs.Demand3.{bound};
 ghost use Rattle.clustering.specs.Answers.{grouped, NumbersByChains};
 ghost use Rattle.packing.specs.Answers.{packedBoxes};
 ghost use Rattle.layout.specs.Answers.{resultOf, placedOf};
-use packing::Packed;
-use packing::skyline_pack;
 use clustering::Clusters;
 use clustering::find_clusters;
 use clustering::find_clusters_from_exclusive_regions;
 use layout::container::Placed;
+use layout::container::normalize_layout_with_container;
 use layout::normalize::Result;
 use layout::normalize::normalize_layout_with_clusters;
-use layout::container::normalize_layout_with_container;
+use packing::Packed;
+use packing::skyline_pack;
 use shapes::circle::Circle;
 use shapes::rectangle::Rectangle;
 

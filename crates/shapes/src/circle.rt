@@ -3,8 +3,8 @@ ghost use mathlib.Core.Path.{_≡_};
 ghost use Rattle.shapes.specs.Boxes.{circleBox};
 ghost use Rattle.shapes.specs.Limits.{radiusInRange};
 ghost use Rattle.shapes.specs.Lift.{lift, circleAt, movedTo};
-use crate::extremes::maximum;
 use crate::bounds::Bounds;
+use crate::extremes::maximum;
 use crate::point::Point;
 
 #[repr(C)]

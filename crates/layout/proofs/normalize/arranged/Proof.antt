@@ -39,10 +39,15 @@ placed-requires c κs =
     let t = c .before .before .before .before .before .before .before .before .before .before .before .before .before .tolerance .ensures _ (accepted-paired _ _ _ _ _ _ (p .2) (p .3)) in
     let f = c .before .before .before .before .before .find-clusters-from-exclusive-regions in
     let o = c .before .before .before .before .before .before .before .before .before .before .parted in
-    let long = length-numbers _ _ _ _ _ _ (p .2) (p .3) (p .0) _ t (grouped (f .result)) (f .ensures .0) in
-    (omega (arith, p .1, o .kept), omega (arith, p .2, o .kept), omega (arith, long, o .kept), accepted-lifted _ _ _ _ _ _ (p .2) (p .3),
-    few-clusters _ _ _ _ _ _ (p .2) (p .3) (p .0) _ t (grouped (f .result)) (f .ensures .0), numbers-inside _ _ _ _ _ _ (p .2) (p .3) (p .0) _ t (grouped (f .result)) (f .ensures .0),
-    clusters-packable _ _ _ _ _ _ (p .2) (p .3) (p .0) _ t (grouped (f .result)) (f .ensures .0) (p .4) _ (o .ensures .0))
+    let long = length-numbers _ _ _ _ _ _ (p .2) (p .3) (p .0) _ t (grouped (f .result)) (f .ensures .0) in (
+      omega (arith, p .1, o .kept),
+      omega (arith, p .2, o .kept),
+      omega (arith, long, o .kept),
+      accepted-lifted _ _ _ _ _ _ (p .2) (p .3),
+      few-clusters _ _ _ _ _ _ (p .2) (p .3) (p .0) _ t (grouped (f .result)) (f .ensures .0),
+      numbers-inside _ _ _ _ _ _ (p .2) (p .3) (p .0) _ t (grouped (f .result)) (f .ensures .0),
+      clusters-packable _ _ _ _ _ _ (p .2) (p .3) (p .0) _ t (grouped (f .result)) (f .ensures .0) (p .4) _ (o .ensures .0),
+    )
 
 same-length : tie.Need-same-length
 same-length c = search needs

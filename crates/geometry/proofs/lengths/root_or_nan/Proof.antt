@@ -2,8 +2,8 @@
 use borrow.Author.Needs.{needs}
 use lib.Ieee.{ofBits, div}
 use Rattle.geometry.proofs.Numbers.{root-given, root-refused}
-use Rattle.geometry.proofs.point.root_or_nan.Statement.{statement}
-use Rattle.geometry.proofs.point.root_or_nan.Tie as tie
+use Rattle.geometry.proofs.lengths.root_or_nan.Statement.{statement}
+use Rattle.geometry.proofs.lengths.root_or_nan.Tie as tie
 
 root-requires : tie.Need-root-requires
 root-requires c κs = search needs

@@ -1,7 +1,7 @@
 -- `absolute` meets its contract, for every f64.
 use Rattle.geometry.proofs.Numbers.{size-below-zero, size-of-zero, size-above-zero}
-use Rattle.geometry.proofs.circle.absolute.Statement.{statement}
-use Rattle.geometry.proofs.circle.absolute.Tie as tie
+use Rattle.geometry.proofs.lengths.absolute.Statement.{statement}
+use Rattle.geometry.proofs.lengths.absolute.Tie as tie
 
 returns : tie.Need-returns
 returns c = size-below-zero _ (c .if1 .taken)
