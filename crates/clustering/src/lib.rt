@@ -22,7 +22,7 @@ ghost use Rattle.intake.specs.Firsts.{FirstFrom};
 ghost use Rattle.clustering.specs.Answers.{grouped, NumbersByChains, firstGrouping, shownGrouping};
 ghost use Rattle.clustering.specs.Table.{Row, Shows};
 use geometry::lengths::absolute;
-use geometry::lengths::magnitude;
+use geometry::lengths::apart;
 use geometry::lengths::meets;
 use intake::causes::number_of;
 use intake::causes::of_circles;
@@ -294,7 +294,7 @@ fn overlap(a: Circle, b: Circle) -> bool
     ensures { λ r. ⌜ r ≡ overlap a b ⌝ }
 {
     meets(
-        magnitude(a.center.x - b.center.x, a.center.y - b.center.y),
+        apart(a.center.x - b.center.x, a.center.y - b.center.y),
         a.radius,
         b.radius,
     )

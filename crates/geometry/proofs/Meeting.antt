@@ -18,6 +18,6 @@ magnitude-is-distance p q = refl
 abbrev pub meeting : Float → Float → Float → Bool
 meeting d a b = ((d <ᶠ a +ᶠ b) && (abs (a -ᶠ b) <ᶠ d)) || ((d +ᶠ b ≤ᶠ a) || (d +ᶠ a ≤ᶠ b))
 
-pub meeting-is-overlap : (a b : Circle) → meeting (magnitude (a .center .x -ᶠ b .center .x) (a .center .y -ᶠ b .center .y)) (a .radius) (b .radius) ≡ overlap a b
+pub meeting-is-overlap : (a b : Circle) → meeting (distance (a .center) (b .center)) (a .radius) (b .radius) ≡ overlap a b
 unfolding overlap intersects contains
-meeting-is-overlap a b = rw (magnitude-is-distance (a .center) (b .center), distance-swapped (b .center) (a .center))
+meeting-is-overlap a b = rw (distance-swapped (b .center) (a .center))

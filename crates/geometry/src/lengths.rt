@@ -5,6 +5,7 @@ ghost use lib.Ieee.{binary64};
 ghost use Rattle.rounding.specs.Root.{root};
 ghost use Rattle.scope.specs.Numbers.{_+ᶠ_, _-ᶠ_, _<ᶠ_, _≤ᶠ_, abs};
 ghost use Rattle.scope.specs.Offset.{magnitude};
+ghost use Rattle.geometry.specs.Lengths.{DistanceBy};
 use root::answers::Root;
 
 // The size of a number, its sign taken off.
@@ -35,6 +36,13 @@ pub fn magnitude(x: f64, y: f64) -> f64
     ensures { λ r. ⌜ r ≡ magnitude x y ⌝ }
 {
     root_or_nan(x * x + y * y)
+}
+
+// The distance of two points whose coordinates differ by x and y.
+pub fn apart(x: f64, y: f64) -> f64
+    ensures { λ r. ⌜ DistanceBy x y r ⌝ }
+{
+    magnitude(x, y)
 }
 
 // Of circles whose centres are d apart: whether one lies inside the other. One that touches the edge from inside does.

@@ -3,7 +3,7 @@ ghost use mathlib.Core.Path.{_≡_};
 ghost use Rattle.scope.specs.Distance.{distance, distanceAnswer};
 ghost use Rattle.scope.specs.Refusals.{pointsRefusal};
 ghost use Rattle.geometry.specs.Answers.{measured};
-use crate::lengths::magnitude;
+use crate::lengths::apart;
 use intake::causes::number_of;
 use intake::causes::of_points;
 use shapes::point::Point;
@@ -34,5 +34,5 @@ fn points_refusal(p: Point, q: Point) -> u8
 pub(crate) fn raw_distance(p: Point, q: Point) -> f64
     ensures { λ r. ⌜ r ≡ distance p q ⌝ }
 {
-    magnitude(p.x - q.x, p.y - q.y)
+    apart(p.x - q.x, p.y - q.y)
 }

@@ -1,4 +1,5 @@
 pub mod Beyond
+pub mod TrailingZeros
 pub mod Rising
 pub mod Checking
 pub mod Overwriting

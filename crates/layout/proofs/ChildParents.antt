@@ -24,7 +24,8 @@ use Rattle.promises.proofs.Cases.{eqb-iff}
 use Rattle.promises.proofs.Regions.{length-regions}
 use Rattle.promises.proofs.Runs.{least-at, least-none, length-tab, getD-tab, many-equal}
 use Rattle.layout.specs.Offsets.{numbered, parentAt, ParentsOf}
-use Rattle.layout.proofs.LoneBits.{never-more, zeros-below}
+use Rattle.intake.proofs.TrailingZeros.{zeros-below}
+use Rattle.layout.proofs.LoneBits.{never-more}
 use Rattle.layout.proofs.RegionFolds.{gathered, joinOthers}
 
 -- ---- the one circle of a mask

@@ -1,13 +1,12 @@
--- Masks of one bit: what a union of masks that is one says of each mask, the zeros below the bit, and that it has no bit in common with the number before it.
+-- Masks of one bit: what a union of masks that is one says of each mask, and that it has no bit in common with the number before it.
 use Prim.Native.Nat.{ℕ, zero, suc, _+_, _-_, _*_, _/_, _%_, _^_, _≤_, _<_, max}
 use native.Mathlib.Omega.{arith}
 use native.Mathlib.Decide.{decLe}
 use native.Mathlib.Nat.{mod-self, pow-succ'}
-use mathlib.Core.Path.{_≡_, refl, sym, ap, _∙_}
+use mathlib.Core.Path.{_≡_, sym, _∙_}
 use mathlib.Core.Logic.{_⊎_, inl, inr, ⊎-elim}
 use mathlib.Core.Bool.{Bool}
 use lib.Bits.{bitAnd, bitOr, or-step, or-add-and, and-le-r, and-mask}
-use lib.Count.{trailingZeros, under}
 use Rattle.algebra.proofs.Size.{either}
 use Rattle.scope.specs.Runs.{gather}
 use Rattle.promises.proofs.Cases.{tested}
@@ -65,21 +64,3 @@ module _ {B : Type 0} (p : ℕ → Bool) (mask : B → ℕ) (f : ℕ → B) wher
 
 pub nothing-in-common : (q : ℕ) → bitAnd (2 ^ q) (2 ^ q - 1) ≡ 0
 nothing-in-common q = and-mask (2 ^ q) q ∙ mod-self (2 ^ q)
-
-pub zeros-below : (d q : ℕ) → q < d → trailingZeros d (2 ^ q) ≡ q
-unfolding trailingZeros
-zeros-below zero q h = absurd (omega arith)
-zeros-below (suc d) zero h = refl
-zeros-below (suc d) (suc q) h =
-    let half : 2 ^ suc q / 2 ≡ 2 ^ q = rw (pow-succ' 2 q) (omega arith) in
-    let last : 2 ^ suc q % 2 ≡ 0 = rw (pow-succ' 2 q) (omega arith) in
-    rw (last, half) (ap suc (zeros-below d q (omega arith)))
-
-pub few-zeros : (d n : ℕ) → trailingZeros d n ≤ d
-unfolding trailingZeros
-few-zeros zero n = omega arith
-few-zeros (suc d) n = below (n % 2) (few-zeros d (n / 2))
-  where
-    below : (r : ℕ) {t : ℕ} → t ≤ d → under r t ≤ suc d
-    below zero l = omega arith
-    below (suc r) l = omega arith

@@ -40,6 +40,7 @@ ghost use Rattle.scope.specs.Offset.{
 ghost use Rattle.intake.specs.Columns.{circlesOf, Lifted};
 ghost use Rattle.layout.specs.Offsets.{numbered, moved, parentAt, ParentsOf, moment};
 ghost use Rattle.layout.specs.Shown.{partedOf};
+use geometry::lengths::apart;
 use geometry::lengths::magnitude;
 use geometry::lengths::meets;
 use geometry::lengths::within;
@@ -217,7 +218,7 @@ fn contains(a: Circle, b: Circle) -> bool
     ensures { λ r. ⌜ r ≡ contains a b ⌝ }
 {
     within(
-        magnitude(a.center.x - b.center.x, a.center.y - b.center.y),
+        apart(a.center.x - b.center.x, a.center.y - b.center.y),
         b.radius,
         a.radius,
     )
@@ -348,7 +349,7 @@ fn in_the_way(c: Circle, other: Circle, k: usize, p: usize, i: usize) -> bool
         return false;
     }
     meets(
-        magnitude(c.center.x - other.center.x, c.center.y - other.center.y),
+        apart(c.center.x - other.center.x, c.center.y - other.center.y),
         c.radius,
         other.radius,
     )

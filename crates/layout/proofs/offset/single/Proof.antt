@@ -3,7 +3,7 @@ use native.Mathlib.Omega.{arith}
 use mathlib.Core.Path.{sym, _∙_}
 use borrow.Author.Needs.{needs}
 use Rattle.layout.proofs.ChildParents.{alone-at, alone-past, alone-other}
-use Rattle.layout.proofs.LoneBits.{few-zeros}
+use Rattle.intake.proofs.TrailingZeros.{few-zeros}
 use Rattle.layout.proofs.offset.single.Statement.{statement}
 use Rattle.layout.proofs.offset.single.Tie as tie
 

@@ -1,0 +1,62 @@
+-- The zeros below the lowest set digit of a number of d digits.
+use Prim.Native.Nat.{ℕ, zero, suc, _*_, _/_, _%_, _^_, _≤_, _<_}
+use native.Mathlib.Omega.{arith}
+use native.Mathlib.Nat.{div-one, div-div-eq-div-mul, pow-succ'}
+use mathlib.Core.Path.{_≡_, refl, sym, ap}
+use mathlib.Core.Logic.{_⊎_, inl, inr}
+use lib.Count.{trailingZeros, under}
+
+digit : (n : ℕ) → (n % 2 ≡ 0) ⊎ (n % 2 ≡ 1)
+digit n = two (n % 2) (omega arith)
+  where
+    two : (r : ℕ) → r < 2 → (r ≡ 0) ⊎ (r ≡ 1)
+    two zero l = inl refl
+    two (suc r) l = inr (omega arith)
+
+halved : (n t : ℕ) → n / 2 ^ suc t ≡ n / 2 / 2 ^ t
+halved n t = rw (pow-succ' 2 t) (sym (div-div-eq-div-mul n 2 (2 ^ t)))
+
+-- ---- the digits of n below the count are 0, and the next is 1, unless n is 0
+
+pub clear-below : (d n t : ℕ) → t < trailingZeros d n → n / 2 ^ t % 2 ≡ 0
+unfolding trailingZeros
+clear-below zero n t h = absurd (omega arith)
+clear-below (suc d) n t h = elim (digit n) [
+  | inl e ↦ first t (rw e at h) e (λ u l. clear-below d (n / 2) u l)
+  | inr e ↦ let l : t < 0 = rw e at h in absurd (omega arith)
+]
+  where
+    first : (t : ℕ) → t < suc (trailingZeros d (n / 2)) → n % 2 ≡ 0 → ((u : ℕ) → u < trailingZeros d (n / 2) → n / 2 / 2 ^ u % 2 ≡ 0) → n / 2 ^ t % 2 ≡ 0
+    first zero l e rest = rw (div-one n) e
+    first (suc t) l e rest = rw (halved n t) (rest t (omega arith))
+
+pub set-above : (d n : ℕ) → (n ≡ 0 → ⊥) → n < 2 ^ d → n / 2 ^ trailingZeros d n % 2 ≡ 1
+unfolding trailingZeros
+set-above zero n h l = absurd (h (omega arith))
+set-above (suc d) n h l = elim (digit n) [
+  | inl e ↦ rw (e, halved n (trailingZeros d (n / 2))) (set-above d (n / 2) (λ z. h (omega arith)) (half (2 ^ d) (rw (pow-succ' 2 d) at l)))
+  | inr e ↦ rw (e, div-one n) e
+]
+  where
+    half : (p : ℕ) → n < 2 * p → n / 2 < p
+    half p l = omega arith
+
+-- ---- how many there are
+
+pub zeros-below : (d q : ℕ) → q < d → trailingZeros d (2 ^ q) ≡ q
+unfolding trailingZeros
+zeros-below zero q h = absurd (omega arith)
+zeros-below (suc d) zero h = refl
+zeros-below (suc d) (suc q) h =
+    let half : 2 ^ suc q / 2 ≡ 2 ^ q = rw (pow-succ' 2 q) (omega arith) in
+    let last : 2 ^ suc q % 2 ≡ 0 = rw (pow-succ' 2 q) (omega arith) in
+    rw (last, half) (ap suc (zeros-below d q (omega arith)))
+
+pub few-zeros : (d n : ℕ) → trailingZeros d n ≤ d
+unfolding trailingZeros
+few-zeros zero n = omega arith
+few-zeros (suc d) n = below (n % 2) (few-zeros d (n / 2))
+  where
+    below : (r : ℕ) {t : ℕ} → t ≤ d → under r t ≤ suc d
+    below zero l = omega arith
+    below (suc r) l = omega arith
