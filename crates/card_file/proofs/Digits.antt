@@ -10,8 +10,8 @@ use lib.ListN.{length, length-append}
 use lib.Pow.{pow-add}
 use Rattle.scope.specs.Runs.{tab, least}
 use Rattle.scope.specs.Print.{decimal, hexDigit, hexadecimal, sixteenDigits}
-use Rattle.promises.proofs.Runs.{length-tab, tab-equal, NoneBelow, least-at-most, none-before-least, least-passes, least-below, least-at}
-use Rattle.promises.proofs.Cases.{not-ltb-iff}
+use Rattle.laws.proofs.Runs.{length-tab, tab-equal, NoneBelow, least-at-most, none-before-least, least-passes, least-below, least-at}
+use Rattle.laws.proofs.Cases.{not-ltb-iff}
 
 tab-last : {A : Type 0} (n : ℕ) (f : ℕ → A) → tab (suc n) f ≡ tab n f ++ (f n ∷ [])
 unfolding tab

@@ -8,8 +8,8 @@ use lib.ListN.{length, getD, drop, length-drop}
 use borrow.Author.Tests.{ltb-false}
 use Rattle.scope.specs.Refusals.{refused, given, answer}
 use Rattle.scope.specs.CardFile.{littleEndian, tag, bodyLength, headLength, bodyCut, statedLength, fieldRefusal}
-use Rattle.promises.proofs.Cases.{is-false}
-use Rattle.promises.proofs.EntryPoints.{field-reads}
+use Rattle.laws.proofs.Cases.{is-false}
+use Rattle.laws.proofs.EntryPoints.{field-reads}
 
 pub stated-is : (l : List ℕ) → statedLength l ≡ getD l 1 0 + 256 * getD l 2 0
 unfolding statedLength littleEndian

@@ -7,7 +7,7 @@ use native.Mathlib.Numerals.{add-one}
 use lib.ListN.{length, set, replicate, length-append, take, getD}
 use lib.Seq.{set-at, take-suc, take-length, length-take-le}
 use Rattle.scope.specs.Runs.{filled}
-use Rattle.promises.proofs.Runs.{length-filled}
+use Rattle.laws.proofs.Runs.{length-filled}
 use Rattle.card_file.specs.Texts.{maxText, Put}
 
 -- a store behind a text is the text with one byte more

@@ -15,8 +15,8 @@ use Rattle.scope.specs.Numbers.{nought}
 use Rattle.scope.specs.Limits.{circleCap, regionCap}
 use Rattle.scope.specs.Refusals.{Answer, refused, given, tooMany, tooManyRegions}
 use Rattle.scope.specs.CardFile.{Card, tag, body, bodyLength, headLength, bodyCut, misplaced, word, floatOf, circleOf, withField, firstRefusal, nextRefusal, orRefused, fields, readFile}
-use Rattle.promises.proofs.Cases.{is-false, and-iff, or-iff, not-not-iff, eqb-iff, not-ltb-iff}
-use Rattle.promises.proofs.EntryPoints.{first-field-reads, next-field-reads}
+use Rattle.laws.proofs.Cases.{is-false, and-iff, or-iff, not-not-iff, eqb-iff, not-ltb-iff}
+use Rattle.laws.proofs.EntryPoints.{first-field-reads, next-field-reads}
 use Rattle.intake.specs.Blanks.{blank}
 use Rattle.intake.specs.Limits.{maxCircles, maxRegions}
 use Rattle.card_file.specs.Answers.{listed, started}

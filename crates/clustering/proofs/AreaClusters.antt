@@ -9,10 +9,10 @@ use Rattle.scope.specs.Limits.{circleCap}
 use Rattle.scope.specs.Refusals.{regionsRefusal}
 use Rattle.scope.specs.Links.{regions}
 use Rattle.scope.specs.Groups.{clusters, Grouping, grouping, areaGrouping}
-use Rattle.promises.proofs.Accepted.{not-too-many-iff, not-unequal-iff}
-use Rattle.promises.proofs.EntryPoints.{regions-reads}
-use Rattle.promises.proofs.AfterRefusal.{area-grouping-answers}
-use Rattle.promises.proofs.Clusters.{same-filled-number-iff-chain}
+use Rattle.laws.proofs.Accepted.{not-too-many-iff, not-unequal-iff}
+use Rattle.laws.proofs.EntryPoints.{regions-reads}
+use Rattle.laws.proofs.AfterRefusal.{area-grouping-answers}
+use Rattle.laws.proofs.Clusters.{same-filled-number-iff-chain}
 use Rattle.clustering.specs.Answers.{NumbersByChains}
 
 module _ (n : ℕ) (masks : List ℕ) (areas : List Float) where

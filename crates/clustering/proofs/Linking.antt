@@ -16,10 +16,10 @@ use Rattle.scope.specs.Numbers.{_≤ᶠ_}
 use Rattle.scope.specs.Runs.{bit}
 use Rattle.shapes.specs.declared.circle.Circle.{Circle}
 use Rattle.scope.specs.Links.{Region, regions, counts, share, linkedByRegions, circle}
-use Rattle.promises.proofs.Regions.{length-regions, getD-regions}
-use Rattle.promises.proofs.OneMoreRegion.{share-append}
-use Rattle.promises.proofs.Overlap.{overlap-swapped}
-use Rattle.promises.proofs.Clusters.{meet}
+use Rattle.laws.proofs.Regions.{length-regions, getD-regions}
+use Rattle.laws.proofs.OneMoreRegion.{share-append}
+use Rattle.laws.proofs.Overlap.{overlap-swapped}
+use Rattle.laws.proofs.Clusters.{meet}
 use Rattle.clustering.specs.Table.{cell, mark, Shows}
 use Rattle.clustering.proofs.Table.{shows-same, put, shows-put, along, down}
 

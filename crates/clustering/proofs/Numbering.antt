@@ -11,9 +11,9 @@ use Rattle.scope.specs.Runs.{many, least, tab, filled}
 use Rattle.scope.specs.Limits.{circleCap}
 use Rattle.scope.specs.Closure.{Marks, at}
 use Rattle.scope.specs.Groups.{leader, leads, number, clustersOf, Grouping, grouping}
-use Rattle.promises.proofs.Runs.{many-takes, many-leaves, length-tab, getD-tab, getD-tab-past, length-filled, getD-filled-any}
-use Rattle.promises.proofs.Closure.{Equivalence}
-use Rattle.promises.proofs.Numbers.{leads-iff, leader-at-most, leader-leads}
+use Rattle.laws.proofs.Runs.{many-takes, many-leaves, length-tab, getD-tab, getD-tab-past, length-filled, getD-filled-any}
+use Rattle.laws.proofs.Closure.{Equivalence}
+use Rattle.laws.proofs.Numbers.{leads-iff, leader-at-most, leader-leads}
 
 -- so many clusters begin before circle i, the circles before i have their numbers, and what comes after is 0
 pub record Numbered (n : ℕ) (t : Marks) (i c : ℕ) (l : List ℕ) : Type 0 where

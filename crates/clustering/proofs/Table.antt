@@ -12,7 +12,7 @@ use lib.Seq.{getD-set-same, getD-set-other}
 use lib.Dec.{T, eqb, ltb}
 use borrow.Author.Tests.{lt-ltb, le-ltb, eq-eqb, ne-eqb}
 use Rattle.scope.specs.Closure.{Marks, at, marked, pass, passes, closure}
-use Rattle.promises.proofs.Marks.{at-marked}
+use Rattle.laws.proofs.Marks.{at-marked}
 use Rattle.clustering.specs.Table.{cell, mark, Shows, Row}
 
 -- ---- reading

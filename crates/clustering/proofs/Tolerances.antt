@@ -11,7 +11,7 @@ use Rattle.scope.specs.Numbers.{_*ᶠ_, nought, one, e-10, abs}
 use Rattle.scope.specs.Runs.{gather, always}
 use Rattle.scope.specs.Links.{Region, regions}
 use Rattle.scope.specs.Tolerance.{region, noRegion, largest, tolerance}
-use Rattle.promises.proofs.Regions.{length-regions, getD-regions}
+use Rattle.laws.proofs.Regions.{length-regions, getD-regions}
 
 -- the largest area of the first k regions
 abbrev pub largestOf : List ℕ → List Float → ℕ → Float

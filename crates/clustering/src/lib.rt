@@ -13,8 +13,8 @@ ghost use Rattle.scope.specs.Links.{regions, circle, overlap, linkedByRegions, 
 ghost use Rattle.scope.specs.Tolerance.{tolerance};
 ghost use Rattle.scope.specs.Closure.{Marks, at, closure};
 ghost use Rattle.scope.specs.Groups.{clusters, plainClusters, clustersOf, grouping, areaGrouping, plainGrouping};
-ghost use Rattle.promises.proofs.Closure.{Equivalence};
-ghost use Rattle.promises.proofs.AfterRefusal.{refusedGrouping};
+ghost use Rattle.laws.proofs.Closure.{Equivalence};
+ghost use Rattle.laws.proofs.AfterRefusal.{refusedGrouping};
 ghost use Rattle.intake.specs.Limits.{maxCircles};
 ghost use Rattle.intake.specs.Columns.{circlesOf};
 ghost use Rattle.intake.specs.CauseWords.{front};

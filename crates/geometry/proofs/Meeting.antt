@@ -8,7 +8,7 @@ use Rattle.scope.specs.Numbers.{_+ᶠ_, _-ᶠ_, _<ᶠ_, _≤ᶠ_, abs}
 use Rattle.scope.specs.Distance.{distance, intersects, contains}
 use Rattle.scope.specs.Links.{overlap}
 use Rattle.scope.specs.Offset.{magnitude}
-use Rattle.promises.proofs.Overlap.{distance-swapped}
+use Rattle.laws.proofs.Overlap.{distance-swapped}
 
 pub magnitude-is-distance : (p q : Point) → magnitude (p .x -ᶠ q .x) (p .y -ᶠ q .y) ≡ distance p q
 unfolding magnitude distance

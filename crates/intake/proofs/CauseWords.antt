@@ -12,8 +12,8 @@ use lib.Pow.{pow-pos}
 use Rattle.algebra.proofs.Table.{every, at}
 use Rattle.scope.specs.Runs.{bit}
 use Rattle.scope.specs.Refusals.{causes, Checks, causeHolds, first, refusal}
-use Rattle.promises.proofs.Cases.{tested, is-true, is-false, eqb-iff}
-use Rattle.promises.proofs.MaskBits.{bit-of-union, union-left, union-right, bit-of-power, power-has-one-bit, bit-past}
+use Rattle.laws.proofs.Cases.{tested, is-true, is-false, eqb-iff}
+use Rattle.laws.proofs.MaskBits.{bit-of-union, union-left, union-right, bit-of-power, power-has-one-bit, bit-past}
 use Rattle.intake.specs.CauseWords.{Says}
 
 -- ---- bits as truth values

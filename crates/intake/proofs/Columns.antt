@@ -20,8 +20,8 @@ use Rattle.scope.specs.Refusals.{badPoint, badCentre, badRadius}
 use Rattle.scope.specs.Packing.{rectangle}
 use Rattle.scope.specs.Offset.{translated}
 use Rattle.scope.specs.Centring.{allTranslated}
-use Rattle.promises.proofs.Cases.{or-iff}
-use Rattle.promises.proofs.Runs.{length-tab, getD-tab, tab-equal, any-at, someBelow-iff}
+use Rattle.laws.proofs.Cases.{or-iff}
+use Rattle.laws.proofs.Runs.{length-tab, getD-tab, tab-equal, any-at, someBelow-iff}
 use Rattle.intake.specs.Limits.{maxCircles}
 use Rattle.intake.specs.Columns.{circleOf, at, circlesOf, xsOf, ysOf, radiiOf, widthsOf, heightsOf, each, members, Lifted}
 use Rattle.intake.proofs.InPlace.{so-far, rewritten, all-rewritten}

@@ -8,7 +8,7 @@ use mathlib.Core.List.{List, [], _∷_, _++_}
 use lib.ListN.{length, getD, set, take, drop}
 use lib.Seq.{length-take-le, getD-take}
 use Rattle.scope.specs.Runs.{tab}
-use Rattle.promises.proofs.Runs.{length-tab, getD-tab, tab-equal}
+use Rattle.laws.proofs.Runs.{length-tab, getD-tab, tab-equal}
 use Rattle.intake.proofs.Overwriting.{over, over-next}
 
 module _ {A : Type 0} where

@@ -17,7 +17,7 @@ use Rattle.scope.specs.Container.{Contained, contained}
 use Rattle.scope.specs.Layout.{Layout as Whole, Result as Outcome, layout, refusedLayout}
 use Rattle.scope.specs.Promises.{Promises}
 use Rattle.promises.specs.Demand3.{bound}
-use Rattle.promises.proofs.Runs.{tab-equal}
+use Rattle.laws.proofs.Runs.{tab-equal}
 use Rattle.intake.specs.Limits.{maxCircles}
 use Rattle.intake.specs.Columns.{circleOf, at, xsOf, ysOf, radiiOf, overwritten}
 use Rattle.intake.proofs.Checking.{few}

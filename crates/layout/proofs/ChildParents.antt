@@ -20,9 +20,9 @@ use Rattle.scope.specs.Runs.{least, many}
 use Rattle.scope.specs.Links.{Region, regions}
 use Rattle.scope.specs.Tolerance.{tolerance}
 use Rattle.scope.specs.Offset.{areaWithMask, otherBits, containedChildParent, smaller, ifSmaller, parentOf, isParent, parents, onlyChild}
-use Rattle.promises.proofs.Cases.{eqb-iff}
-use Rattle.promises.proofs.Regions.{length-regions}
-use Rattle.promises.proofs.Runs.{least-at, least-none, length-tab, getD-tab, many-equal}
+use Rattle.laws.proofs.Cases.{eqb-iff}
+use Rattle.laws.proofs.Regions.{length-regions}
+use Rattle.laws.proofs.Runs.{least-at, least-none, length-tab, getD-tab, many-equal}
 use Rattle.layout.specs.Offsets.{numbered, parentAt, ParentsOf}
 use Rattle.intake.proofs.TrailingZeros.{zeros-below}
 use Rattle.layout.proofs.LoneBits.{never-more}

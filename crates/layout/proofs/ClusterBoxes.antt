@@ -21,8 +21,8 @@ use Rattle.scope.specs.Links.{circle}
 use Rattle.scope.specs.Offset.{translated}
 use Rattle.scope.specs.Packing.{noRectangle, rectangle, rectangleArea, packed}
 use Rattle.scope.specs.Padding.{asRectangle, boxes, padding, shift, shifted, packClusters}
-use Rattle.promises.proofs.Runs.{length-tab, getD-tab, tab-equal, gather-takes, gather-leaves, gather-equal}
-use Rattle.promises.proofs.Cases.{eqb-iff}
+use Rattle.laws.proofs.Runs.{length-tab, getD-tab, tab-equal, gather-takes, gather-leaves, gather-equal}
+use Rattle.laws.proofs.Cases.{eqb-iff}
 use Rattle.intake.specs.Columns.{at, circlesOf, each, Lifted, widthsOf, heightsOf}
 use Rattle.intake.proofs.Columns.{length-shown, shown-at, shown-equal}
 use Rattle.layout.specs.Ranges.{rangeOf, middleOf}

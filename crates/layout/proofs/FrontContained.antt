@@ -15,11 +15,11 @@ use Rattle.scope.specs.Limits.{circleCap}
 use Rattle.scope.specs.Links.{circle, nowhere}
 use Rattle.scope.specs.Refusals.{causes, causeHolds, first, refusal, tooMany, badCentre, badPoint, badRadius, badSide, containerRefusal}
 use Rattle.scope.specs.Container.{settled}
-use Rattle.promises.proofs.Cases.{is-false, not-not-iff}
-use Rattle.promises.proofs.Accepted.{not-too-many-iff}
-use Rattle.promises.proofs.AfterRefusal.{container-answers}
-use Rattle.promises.proofs.EntryPoints.{container-reads}
-use Rattle.promises.proofs.Runs.{any-at}
+use Rattle.laws.proofs.Cases.{is-false, not-not-iff}
+use Rattle.laws.proofs.Accepted.{not-too-many-iff}
+use Rattle.laws.proofs.AfterRefusal.{container-answers}
+use Rattle.laws.proofs.EntryPoints.{container-reads}
+use Rattle.laws.proofs.Runs.{any-at}
 use Rattle.scope.specs.Limits.{radiusOk}
 use Rattle.intake.specs.Limits.{maxCircles}
 use Rattle.intake.specs.Columns.{circlesOf, Lifted}

@@ -19,10 +19,10 @@ use Rattle.scope.specs.Refusals.{causes, causeHolds, first, refusal, tooMany, u
 use Rattle.scope.specs.Layout.{Result as Outcome, Layout, layout, arranged, refusedLayout}
 use Rattle.scope.specs.Promises.{Promises}
 use Rattle.promises.specs.Demand3.{bound, AreDoubles, Demand3}
-use Rattle.promises.proofs.Cases.{is-false}
-use Rattle.promises.proofs.Accepted.{not-too-many-iff}
-use Rattle.promises.proofs.AfterRefusal.{layout-answers}
-use Rattle.promises.proofs.Demand3.{layout-promises}
+use Rattle.laws.proofs.Cases.{is-false}
+use Rattle.laws.proofs.Accepted.{not-too-many-iff}
+use Rattle.laws.proofs.AfterRefusal.{layout-answers}
+use Rattle.promises.proofs.whole.Demand3.{layout-promises}
 use Rattle.intake.specs.Limits.{maxCircles}
 use Rattle.intake.specs.Columns.{at, circlesOf}
 use Rattle.intake.specs.CauseWords.{front}

@@ -16,11 +16,11 @@ use Rattle.scope.specs.Refusals.{layoutRefusal}
 use Rattle.scope.specs.Gauge.{rotateCluster, inCluster, gauged}
 use Rattle.scope.specs.Padding.{shifted, packClusters}
 use Rattle.scope.specs.Layout.{arranged, layout, refusedLayout}
-use Rattle.promises.proofs.Runs.{length-tab}
-use Rattle.promises.proofs.Cluster.{rotate-length}
-use Rattle.promises.proofs.AfterOffset.{offset-length}
-use Rattle.promises.proofs.AfterRefusal.{layout-answers}
-use Rattle.promises.proofs.Centred.{centred-length}
+use Rattle.laws.proofs.Runs.{length-tab}
+use Rattle.promises.proofs.gauge.Cluster.{rotate-length}
+use Rattle.promises.proofs.offset.AfterOffset.{offset-length}
+use Rattle.laws.proofs.AfterRefusal.{layout-answers}
+use Rattle.promises.proofs.packing.Centred.{centred-length}
 use Rattle.intake.proofs.InPlace.{either-length}
 
 turns-length : (count : ℕ) (member : ℕ → ℕ → Bool) (cs : List Circle) → length (inTurn count (λ a. rotateCluster (member a)) cs) ≡ length cs

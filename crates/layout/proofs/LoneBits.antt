@@ -9,8 +9,8 @@ use mathlib.Core.Bool.{Bool}
 use lib.Bits.{bitAnd, bitOr, or-step, or-add-and, and-le-r, and-mask}
 use Rattle.algebra.proofs.Size.{either}
 use Rattle.scope.specs.Runs.{gather}
-use Rattle.promises.proofs.Cases.{tested}
-use Rattle.promises.proofs.Runs.{gather-takes, gather-leaves}
+use Rattle.laws.proofs.Cases.{tested}
+use Rattle.laws.proofs.Runs.{gather-takes, gather-leaves}
 
 -- ---- unions
 

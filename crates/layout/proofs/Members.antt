@@ -7,7 +7,7 @@ use mathlib.Core.Bool.{Bool, true, false, not, _&&_, and-false}
 use lib.Dec.{eqb}
 use borrow.Author.Tests.{eq-eqb, ne-eqb}
 use Rattle.scope.specs.Runs.{least}
-use Rattle.promises.proofs.Runs.{least-at, least-none}
+use Rattle.laws.proofs.Runs.{least-at, least-none}
 use Rattle.intake.specs.Firsts.{FirstFrom}
 
 -- a number read, against a cluster's

@@ -22,8 +22,8 @@ use Rattle.scope.specs.Links.{Region, circle, nowhere, overlap}
 use Rattle.scope.specs.Offset.{parentOf, parents, onlyChild, translated, move, childAt, maxContainedOffset, direction, blocked, there, repositioned, Moved as Step, replaced, tried, offset}
 use Rattle.intake.specs.Columns.{at, circlesOf, Lifted}
 use Rattle.intake.proofs.Columns.{length-shown, shown-at}
-use Rattle.promises.proofs.Cases.{is-true, is-false}
-use Rattle.promises.proofs.Runs.{NoneBelow, someBelow-iff, passes-below, getD-tab}
+use Rattle.laws.proofs.Cases.{is-true, is-false}
+use Rattle.laws.proofs.Runs.{NoneBelow, someBelow-iff, passes-below, getD-tab}
 use Rattle.layout.specs.declared.offset.Moved.{Moved}
 use Rattle.layout.specs.declared.offset.Moved.the-variants as child
 use Rattle.layout.specs.Offsets.{moved, parentAt, ParentsOf, moment}

@@ -15,9 +15,9 @@ use Rattle.scope.specs.Numbers.{nought, golden}
 use Rattle.scope.specs.Refusals.{packRefusal}
 use Rattle.scope.specs.Packing.{rectangle, packed}
 use Rattle.scope.specs.Padding.{boxes, padding, packClusters}
-use Rattle.promises.proofs.Runs.{length-tab, tab-equal}
-use Rattle.promises.proofs.Sizes.{few-boxes-no-padding}
-use Rattle.promises.proofs.PackedCircles.{boxes-length}
+use Rattle.laws.proofs.Runs.{length-tab, tab-equal}
+use Rattle.promises.proofs.packing.Sizes.{few-boxes-no-padding}
+use Rattle.promises.proofs.packing.PackedCircles.{boxes-length}
 use Rattle.intake.specs.Limits.{maxCircles}
 use Rattle.intake.specs.Columns.{at, circlesOf, Lifted, overwritten, widthsOf, heightsOf}
 use Rattle.intake.proofs.Columns.{length-widths, length-heights, width-at, height-at}

@@ -14,7 +14,7 @@ use Rattle.scope.specs.Runs.{gather}
 use Rattle.scope.specs.Links.{circle}
 use Rattle.scope.specs.Gauge.{nothing, pointBox, centresBox}
 use Rattle.scope.specs.Padding.{boxAll}
-use Rattle.promises.proofs.Runs.{gather-equal}
+use Rattle.laws.proofs.Runs.{gather-equal}
 use Rattle.intake.specs.Columns.{circleOf, at, circlesOf}
 use Rattle.intake.proofs.Columns.{length-shown, shown-at}
 use Rattle.layout.specs.Ranges.{noRange, widened, rangeOver, rangeOf}

@@ -9,7 +9,7 @@ use lib.Seq.{drop-length, getD-take, length-take-le}
 use Rattle.shapes.specs.declared.circle.Circle.{Circle}
 use Rattle.scope.specs.Runs.{tab}
 use Rattle.scope.specs.Links.{circle, nowhere}
-use Rattle.promises.proofs.Runs.{length-tab, tab-equal}
+use Rattle.laws.proofs.Runs.{length-tab, tab-equal}
 use Rattle.intake.specs.Columns.{circleOf, at, circlesOf, radiiOf}
 use Rattle.intake.proofs.Columns.{shown-equal, radius-at}
 use Rattle.intake.proofs.InPlace.{over-length, rewritten, so-far, none-rewritten, one-rewritten, all-rewritten}

@@ -16,7 +16,7 @@ use Rattle.scope.specs.Runs.{gather, always, bit}
 use Rattle.scope.specs.Links.{Region, regions, holds}
 use Rattle.scope.specs.Tolerance.{region, noRegion, largest, tolerance}
 use Rattle.scope.specs.Offset.{areaWithMask}
-use Rattle.promises.proofs.Regions.{length-regions, getD-regions}
+use Rattle.laws.proofs.Regions.{length-regions, getD-regions}
 
 -- the region of place k
 abbrev pub regionAt : List ℕ → List Float → ℕ → Region

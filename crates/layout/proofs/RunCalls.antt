@@ -14,8 +14,8 @@ use Rattle.scope.specs.Layout.{Layout, Result as Outcome, refusedLayout, layout
 use Rattle.scope.specs.Container.{Contained, contained}
 use Rattle.scope.specs.Promises.{Promises}
 use Rattle.promises.specs.Demand3.{bound}
-use Rattle.promises.proofs.EntryPoints.{layout-reads, container-reads}
-use Rattle.promises.proofs.AfterRefusal.{layout-answers, container-answers}
+use Rattle.laws.proofs.EntryPoints.{layout-reads, container-reads}
+use Rattle.laws.proofs.AfterRefusal.{layout-answers, container-answers}
 use Rattle.intake.specs.Limits.{maxCircles}
 use Rattle.intake.specs.CauseWords.{front}
 use Rattle.intake.specs.Columns.{xsOf, ysOf, radiiOf}

@@ -23,13 +23,13 @@ use Rattle.scope.specs.Gauge.{gauged}
 use Rattle.scope.specs.Padding.{boxes, padding}
 use Rattle.scope.specs.Layout.{Result, arranged}
 use Rattle.promises.specs.Demand3.{AreDoubles}
-use Rattle.promises.proofs.Accepted.{layout-accepted-iff}
-use Rattle.promises.proofs.AfterRefusal.{area-grouping-answers}
-use Rattle.promises.proofs.Clusters.{clusters-numbering}
-use Rattle.promises.proofs.EntryPoints.{regions-reads, layout-reads}
-use Rattle.promises.proofs.InRange.{radius-lifted}
-use Rattle.promises.proofs.Runs.{length-filled}
-use Rattle.promises.proofs.PackingAccepts.{layout-packs}
+use Rattle.laws.proofs.Accepted.{layout-accepted-iff}
+use Rattle.laws.proofs.AfterRefusal.{area-grouping-answers}
+use Rattle.laws.proofs.Clusters.{clusters-numbering}
+use Rattle.laws.proofs.EntryPoints.{regions-reads, layout-reads}
+use Rattle.promises.proofs.numbers.InRange.{radius-lifted}
+use Rattle.laws.proofs.Runs.{length-filled}
+use Rattle.promises.proofs.whole.PackingAccepts.{layout-packs}
 use Rattle.intake.specs.Columns.{at, circlesOf, Lifted}
 use Rattle.intake.specs.Limits.{maxCircles}
 use Rattle.intake.proofs.Columns.{length-shown, shown-at}

@@ -10,7 +10,7 @@ use native.Mathlib.Nat.{min-eq-left}
 use lib.ListN.{length, getD, set, replicate, length-set, length-replicate}
 use lib.Seq.{getD-set-same, getD-set-other, take-all, ext-getD}
 use Rattle.scope.specs.Runs.{tab, many, filled}
-use Rattle.promises.proofs.Runs.{length-tab, getD-tab, many-takes, many-leaves}
+use Rattle.laws.proofs.Runs.{length-tab, getD-tab, many-takes, many-leaves}
 use Rattle.intake.proofs.Overwriting.{over, over-next, over-all}
 use Rattle.packing.specs.Lists.{At}
 

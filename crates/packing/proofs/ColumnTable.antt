@@ -13,8 +13,8 @@ use Rattle.scope.specs.Limits.{circleCap}
 use Rattle.scope.specs.Refusals.{frontToBack, tooMany, columnsRefusal, answer, refused, given}
 use Rattle.scope.specs.Packing.{columns, columnsAnswer}
 use Rattle.scope.specs.Computing.{computing}
-use Rattle.promises.proofs.Cases.{and-iff}
-use Rattle.promises.proofs.EntryPoints.{columns-reads}
+use Rattle.laws.proofs.Cases.{and-iff}
+use Rattle.laws.proofs.EntryPoints.{columns-reads}
 use Rattle.intake.specs.Limits.{maxCircles}
 use Rattle.intake.proofs.Checking.{few}
 

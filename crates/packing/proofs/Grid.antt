@@ -13,8 +13,8 @@ use Rattle.rounding.specs.Extremes.{maximum}
 use Rattle.scope.specs.Numbers.{_+ᶠ_, nought}
 use Rattle.scope.specs.Runs.{gather}
 use Rattle.scope.specs.Packing.{breadth, start, centred, placed}
-use Rattle.promises.proofs.Cases.{eqb-iff}
-use Rattle.promises.proofs.Runs.{gather-takes, gather-leaves, gather-equal}
+use Rattle.laws.proofs.Cases.{eqb-iff}
+use Rattle.laws.proofs.Runs.{gather-takes, gather-leaves, gather-equal}
 use Rattle.packing.specs.Lists.{At}
 
 -- ---- where lines start

@@ -18,10 +18,10 @@ use Rattle.scope.specs.Runs.{tab, filled, any}
 use Rattle.scope.specs.Limits.{circleCap, sideOk}
 use Rattle.scope.specs.Refusals.{causes, causeHolds, first, refusal, tooMany, badSide, packRefusal}
 use Rattle.scope.specs.Packing.{Packing, noRectangle, rectangle, widthAt, heightAt, packed, packing, skylinePack}
-use Rattle.promises.proofs.Cases.{is-false}
-use Rattle.promises.proofs.Accepted.{not-too-many-iff}
-use Rattle.promises.proofs.Runs.{length-tab, getD-tab}
-use Rattle.promises.proofs.AfterRefusal.{refusedPacking}
+use Rattle.laws.proofs.Cases.{is-false}
+use Rattle.laws.proofs.Accepted.{not-too-many-iff}
+use Rattle.laws.proofs.Runs.{length-tab, getD-tab}
+use Rattle.laws.proofs.AfterRefusal.{refusedPacking}
 use Rattle.intake.specs.Limits.{maxCircles}
 use Rattle.intake.specs.Columns.{at, overwritten, widthsOf, heightsOf}
 use Rattle.intake.proofs.Checking.{few}

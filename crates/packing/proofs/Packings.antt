@@ -17,8 +17,7 @@ use Rattle.scope.specs.Runs.{tab, any}
 use Rattle.scope.specs.Limits.{sideOk, circleCap}
 use Rattle.scope.specs.Refusals.{causes, causeHolds, first, refusal, tooMany, badSide, badPadding, packRefusal}
 use Rattle.scope.specs.Packing.{columns, before, place, placed, noRectangle, rectangle, rectangleArea, places, columnOf, rowOf, widthAt, heightAt, placedCentre, packed}
-use Rattle.promises.proofs.Runs.{length-tab, getD-tab, tab-equal, many-equal, many-at-most}
-use Rattle.promises.proofs.Places.{many-weaker-once}
+use Rattle.laws.proofs.Runs.{length-tab, getD-tab, tab-equal, many-equal, many-at-most, many-weaker-once}
 use Rattle.intake.specs.Columns.{at, overwritten}
 use Rattle.intake.specs.Limits.{maxCircles}
 use Rattle.intake.proofs.Columns.{any-either, not-both}

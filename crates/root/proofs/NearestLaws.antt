@@ -13,8 +13,8 @@ use lib.Ieee.Exact.{HasValue}
 use Rattle.rounding.specs.Root.{root}
 use Rattle.rounding.specs.Value.{mag, Fin}
 use Rattle.rounding.proofs.Value.{mag-of, sign-of, fin-both}
-use Rattle.rounding.proofs.Root.{root-is-nearest}
-use Rattle.rounding.proofs.UnitsRoot.{units-root-unique}
+use Rattle.rounding.proofs.root.Operation.{root-is-nearest}
+use Rattle.rounding.proofs.root.Units.{units-root-unique}
 use Rattle.root.specs.Parts.{infinity, units, one, IsSplit, IsWholeRoot}
 use Rattle.root.proofs.WholeLaws.{root-lt, le-root}
 use Rattle.root.proofs.PatternLaws.{pattern-value, joined-value, has-value-no-nan}

@@ -13,11 +13,4 @@ pub mod Halve
 pub mod Finite
 pub mod Extremes
 pub mod Double
-pub mod WholeRoot
-pub mod NearestRoot
-pub mod RootError
-pub mod RootUnique
-pub mod UnitsRoot
-pub mod Root
-pub mod NearestOnly
-pub mod RootTests
+pub mod root

@@ -11,8 +11,8 @@ use lib.ListN.{length, take, drop, length-take, length-drop}
 use lib.Seq.{drop-drop}
 use Rattle.scope.specs.Refusals.{Answer, refused, given}
 use Rattle.scope.specs.CardFile.{Field, factorField, circleField, regionField, tag, bodyLength, body, headLength, unknown, fieldRefusal, readField, fieldBody}
-use Rattle.promises.proofs.Cases.{is-false}
-use Rattle.promises.proofs.EntryPoints.{field-reads}
+use Rattle.laws.proofs.Cases.{is-false}
+use Rattle.laws.proofs.EntryPoints.{field-reads}
 use Rattle.card_file.specs.Parts.{bodyPlace}
 use Rattle.card_file.proofs.FieldLaws.{body-inside, accepted-is-whole}
 use Rattle.rundhefja.specs.declared.answers.FieldRead.{FieldRead}

@@ -5,7 +5,7 @@ use borrow.Author.Needs.{needs}
 use Rattle.scope.specs.Links.{linkedByCircles}
 use Rattle.scope.specs.Closure.{marked, closure}
 use Rattle.scope.specs.Groups.{plainClusters}
-use Rattle.promises.proofs.Clusters.{circles-equivalence}
+use Rattle.laws.proofs.Clusters.{circles-equivalence}
 use Rattle.intake.specs.Limits.{maxCircles}
 use Rattle.intake.specs.Columns.{circlesOf}
 use Rattle.intake.proofs.Columns.{length-shown}

@@ -4,7 +4,7 @@ use borrow.Author.Needs.{needs}
 use Rattle.scope.specs.Links.{regions, linkedByRegions}
 use Rattle.scope.specs.Closure.{marked, closure}
 use Rattle.scope.specs.Groups.{clusters}
-use Rattle.promises.proofs.Chains.{regions-equivalence}
+use Rattle.laws.proofs.Chains.{regions-equivalence}
 use Rattle.intake.specs.Limits.{maxCircles}
 use Rattle.clustering.proofs.Table.{shows-none, shows-marked}
 use Rattle.clustering.proofs.by_regions.Statement.{statement}

@@ -5,7 +5,7 @@ use mathlib.Core.Path.{sym}
 use mathlib.Core.Bool.{Bool}
 use borrow.Author.Count.{below-more}
 use Rattle.clustering.specs.Table.{Shows}
-use Rattle.promises.proofs.Runs.{NoneBelow, least-at, least-none}
+use Rattle.laws.proofs.Runs.{NoneBelow, least-at, least-none}
 use Rattle.clustering.proofs.Table.{cell-holds, cell-fails}
 use Rattle.clustering.proofs.first_marked.Statement.{statement}
 use Rattle.clustering.proofs.first_marked.Tie as tie

@@ -6,7 +6,7 @@ use mathlib.Core.Logic.{⊎-elim}
 use borrow.Author.Needs.{needs}
 use lib.Dec.{eqb}
 use Rattle.scope.specs.Links.{linkedByCircles}
-use Rattle.promises.proofs.Clusters.{meet}
+use Rattle.laws.proofs.Clusters.{meet}
 use Rattle.intake.specs.Columns.{circlesOf}
 use Rattle.clustering.specs.Table.{Shows}
 use Rattle.clustering.proofs.Table.{along, down, along-start, along-taken, along-left, down-start, down-taken, down-end}

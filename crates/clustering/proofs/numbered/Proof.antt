@@ -7,7 +7,7 @@ use lib.ListN.{length, getD, length-set}
 use borrow.Author.Needs.{needs}
 use Rattle.scope.specs.Limits.{circleCap}
 use Rattle.scope.specs.Closure.{Marks, at}
-use Rattle.promises.proofs.Closure.{Equivalence}
+use Rattle.laws.proofs.Closure.{Equivalence}
 use Rattle.intake.specs.Limits.{maxCircles}
 use Rattle.clustering.specs.Table.{Shows}
 use Rattle.clustering.proofs.Numbering.{Numbered, numbered-none, numbered-old, numbered-new, numbered-all}

@@ -1,7 +1,7 @@
 -- `contains` meets its contract: the refusal, or the value where there is none.
 use mathlib.Core.Path.{sym, _∙_}
 use borrow.Author.Needs.{needs}
-use Rattle.promises.proofs.AfterRefusal.{contains-answers}
+use Rattle.laws.proofs.AfterRefusal.{contains-answers}
 use Rattle.geometry.proofs.circle.contains.Statement.{statement}
 use Rattle.geometry.proofs.circle.contains.Tie as tie
 

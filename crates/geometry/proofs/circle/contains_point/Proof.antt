@@ -1,7 +1,7 @@
 -- `contains_point` meets its contract: the refusal, or the value where there is none.
 use mathlib.Core.Path.{sym, _∙_}
 use borrow.Author.Needs.{needs}
-use Rattle.promises.proofs.AfterRefusal.{contains-point-answers}
+use Rattle.laws.proofs.AfterRefusal.{contains-point-answers}
 use Rattle.geometry.proofs.circle.contains_point.Statement.{statement}
 use Rattle.geometry.proofs.circle.contains_point.Tie as tie
 

@@ -1,7 +1,7 @@
 -- `intersects` meets its contract: the refusal, or the value where there is none.
 use mathlib.Core.Path.{sym, _∙_}
 use borrow.Author.Needs.{needs}
-use Rattle.promises.proofs.AfterRefusal.{intersects-answers}
+use Rattle.laws.proofs.AfterRefusal.{intersects-answers}
 use Rattle.geometry.proofs.circle.intersects.Statement.{statement}
 use Rattle.geometry.proofs.circle.intersects.Tie as tie
 

@@ -2,7 +2,7 @@
 use native.Mathlib.Omega.{arith}
 use mathlib.Core.Path.{_≡_}
 use borrow.Author.Needs.{needs}
-use Rattle.promises.proofs.PackedCircles.{boxes-length}
+use Rattle.promises.proofs.packing.PackedCircles.{boxes-length}
 use Rattle.layout.proofs.PackedClusters.{packed-by}
 use Rattle.layout.proofs.normalize.in_grid.Statement.{statement}
 use Rattle.layout.proofs.normalize.in_grid.Tie as tie

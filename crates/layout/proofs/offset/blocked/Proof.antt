@@ -7,7 +7,7 @@ use borrow.Author.Count.{below-more}
 use borrow.Author.Needs.{needs}
 use Rattle.intake.specs.Columns.{circlesOf}
 use Rattle.intake.proofs.Columns.{length-shown}
-use Rattle.promises.proofs.Runs.{NoneBelow}
+use Rattle.laws.proofs.Runs.{NoneBelow}
 use Rattle.layout.proofs.OffsetMoves.{barred, not-held, way-barred, way-free}
 use Rattle.layout.proofs.offset.blocked.Statement.{statement}
 use Rattle.layout.proofs.offset.blocked.Tie as tie

@@ -1,0 +1,134 @@
+-- What a call answers: on a refusal the number, the rest 0 and everything lent as it was; on acceptance the number 0 and the value.
+use Prim.Native.Nat.{ℕ, zero, suc}
+use native.Mathlib.Omega.{arith}
+use mathlib.Core.Path.{_≡_, refl}
+use mathlib.Core.Logic.{_≢_}
+use mathlib.Core.Bool.{_||_}
+use mathlib.Core.List.{List, [], _∷_}
+use lib.ListN.{getD}
+use lib.Ieee.{Float, binary64, isNan}
+use Rattle.rounding.specs.Root.{root}
+use Rattle.shapes.specs.declared.point.Point.{Point}
+use Rattle.shapes.specs.declared.circle.Circle.{Circle}
+use Rattle.shapes.specs.declared.rectangle.Rectangle.{Rectangle}
+use Rattle.scope.specs.Numbers.{_<ᶠ_, nought, golden}
+use Rattle.scope.specs.Runs.{filled}
+use Rattle.scope.specs.Limits.{circleCap}
+use Rattle.scope.specs.Refusals.{Answer, refused, given, answer, refusal, pointsRefusal, pairRefusal, circlePointRefusal, circlesRefusal, regionsRefusal, columnsRefusal, packRefusal, containerRefusal, layoutRefusal}
+use Rattle.scope.specs.Distance.{rootAnswer, distance, distanceAnswer, circleDistance, circleDistanceAnswer, contains, containsAnswer, containsPoint, containsPointAnswer, intersects, intersectsAnswer}
+use Rattle.scope.specs.Links.{regions}
+use Rattle.scope.specs.Groups.{Clusters, Grouping, clusters, plainClusters, grouping, areaGrouping, plainGrouping}
+use Rattle.scope.specs.Packing.{Packing, columns, columnsAnswer, packing, packed, noRectangle, skylinePack}
+use Rattle.scope.specs.Container.{Contained, settled, containedAnswer, contained}
+use Rattle.scope.specs.Layout.{Layout, arranged, refusedLayout, ifAccepted, layout}
+use Rattle.laws.proofs.Runs.{getD-filled-any}
+
+-- A call whose checks give `number` answers `answer`: the refused form at a refusal, `value` on acceptance. `numberOf` reads the number off an answer.
+pub record Answers {A : Type 0} (numberOf : A → ℕ) (number : ℕ) (answer : A) (refused : ℕ → A) (value : A) : Type 0 where
+  pub says : numberOf answer ≡ number
+  pub at-refusal : number ≢ 0 → answer ≡ refused number
+  pub on-acceptance : number ≡ 0 → answer ≡ value
+
+by-number : {A : Type 0} (numberOf : A → ℕ) (refuse call : ℕ → A) → numberOf (call 0) ≡ 0 → ((k : ℕ) → call (suc k) ≡ refuse (suc k)) → ((k : ℕ) → numberOf (refuse k) ≡ k)
+    → (number : ℕ) → Answers numberOf number (call number) refuse (call 0)
+by-number numberOf refuse call none some named zero = record { says = none; at-refusal = λ h. absurd (h refl); on-acceptance = λ h. refl }
+by-number numberOf refuse call none some named (suc k) =
+    record { says = rw (some k) (named (suc k)); at-refusal = λ h. some k; on-acceptance = λ (h : suc k ≡ 0). absurd (omega arith) }
+
+-- "rest 0": an array filled up from nothing
+pub filled-from-nothing {ℓ} : {A : Type ℓ} (c : ℕ) (z : A) (i : ℕ) → getD (filled c z []) i z ≡ z
+filled-from-nothing c z i = getD-filled-any c z [] i
+
+-- ---- answers that are a value or a refusal
+
+abbrev pub refusalOf : {A : Type 0} → Answer A → ℕ
+refusalOf (refused k) = k
+refusalOf (given a) = 0
+
+answer-answers : {A : Type 0} (number : ℕ) (a : A) → Answers refusalOf number (answer number a) refused (given a)
+unfolding answer
+answer-answers number a = by-number refusalOf refused (λ k. answer k a) refl (λ k. refl) (λ k. refl) number
+
+pub root-answers : (x : Float) → Answers refusalOf (refusal ((12, isNan x || (x <ᶠ nought)) ∷ [])) (rootAnswer x) refused (given (root binary64 x))
+unfolding rootAnswer
+root-answers x = answer-answers _ _
+
+pub distance-answers : (p q : Point) → Answers refusalOf (pointsRefusal p q) (distanceAnswer p q) refused (given (distance p q))
+unfolding distanceAnswer
+distance-answers p q = answer-answers _ _
+
+pub circle-distance-answers : (a b : Circle) → Answers refusalOf (pairRefusal a b) (circleDistanceAnswer a b) refused (given (circleDistance a b))
+unfolding circleDistanceAnswer
+circle-distance-answers a b = answer-answers _ _
+
+pub contains-answers : (a b : Circle) → Answers refusalOf (pairRefusal a b) (containsAnswer a b) refused (given (contains a b))
+unfolding containsAnswer
+contains-answers a b = answer-answers _ _
+
+pub contains-point-answers : (c : Circle) (p : Point) → Answers refusalOf (circlePointRefusal c p) (containsPointAnswer c p) refused (given (containsPoint c p))
+unfolding containsPointAnswer
+contains-point-answers c p = answer-answers _ _
+
+pub intersects-answers : (a b : Circle) → Answers refusalOf (pairRefusal a b) (intersectsAnswer a b) refused (given (intersects a b))
+unfolding intersectsAnswer
+intersects-answers a b = answer-answers _ _
+
+pub columns-answers : (k : ℕ) → Answers refusalOf (columnsRefusal k) (columnsAnswer k) refused (given (columns k golden))
+unfolding columnsAnswer
+columns-answers k = answer-answers _ _
+
+-- ---- clustering: no clusters, all numbers 0
+
+abbrev pub refusedGrouping : ℕ → Grouping
+refusedGrouping k = record { refusal = k; count = 0; numbers = filled circleCap 0 [] }
+
+abbrev pub acceptedGrouping : Clusters → Grouping
+acceptedGrouping g = record { refusal = 0; count = g .count; numbers = filled circleCap 0 (g .numbers) }
+
+grouping-answers : (number : ℕ) (g : Clusters) → Answers (λ (a : Grouping). a .refusal) number (grouping number g) refusedGrouping (acceptedGrouping g)
+unfolding grouping
+grouping-answers number g = by-number (λ a. a .refusal) refusedGrouping (λ k. grouping k g) refl (λ k. refl) (λ k. refl) number
+
+pub area-grouping-answers : (n : ℕ) (masks : List ℕ) (areas : List Float) (tol : Float)
+    → Answers (λ (a : Grouping). a .refusal) (regionsRefusal n masks areas) (areaGrouping n masks areas tol) refusedGrouping (acceptedGrouping (clusters n (regions masks areas) tol))
+unfolding areaGrouping
+area-grouping-answers n masks areas tol = grouping-answers (regionsRefusal n masks areas) (clusters n (regions masks areas) tol)
+
+pub plain-grouping-answers : (cs : List Circle)
+    → Answers (λ (a : Grouping). a .refusal) (circlesRefusal cs) (plainGrouping cs) refusedGrouping (acceptedGrouping (plainClusters cs))
+unfolding plainGrouping
+plain-grouping-answers cs = grouping-answers (circlesRefusal cs) (plainClusters cs)
+
+-- ---- packing: all rectangles 0
+
+abbrev pub refusedPacking : ℕ → Packing
+refusedPacking k = record { refusal = k; rectangles = filled circleCap noRectangle [] }
+
+pub packing-answers : (rects : List Rectangle) (padding : Float)
+    → Answers (λ (a : Packing). a .refusal) (packRefusal rects padding) (skylinePack rects padding) refusedPacking
+    (record { refusal = 0; rectangles = filled circleCap noRectangle (packed golden rects padding) })
+unfolding skylinePack packing
+packing-answers rects padding =
+    by-number (λ a. a .refusal) refusedPacking (λ k. packing k (packed golden rects padding)) refl (λ k. refl) (λ k. refl) (packRefusal rects padding)
+
+-- ---- container: it and the circles as given
+
+abbrev pub refusedContainer : List Circle → Rectangle → ℕ → Contained
+refusedContainer cs container k = record { refusal = k; container = container; circles = cs }
+
+pub container-answers : (cs : List Circle) (container : Rectangle)
+    → Answers (λ (a : Contained). a .refusal) (containerRefusal cs container) (contained cs container) (refusedContainer cs container) (settled container cs)
+unfolding contained containedAnswer settled
+container-answers cs container =
+    by-number (λ a. a .refusal) (refusedContainer cs container) (λ k. containedAnswer k container cs (settled container cs)) refl (λ k. refl) (λ k. refl)
+    (containerRefusal cs container)
+
+-- ---- whole layout: no clusters, nothing moved, padding 0, the circles as given
+
+pub layout-answers : (cs : List Circle) (factor : Float) (masks : List ℕ) (areas : List Float)
+    → Answers (λ (l : Layout). l .result .refusal) (layoutRefusal cs factor masks areas) (layout cs factor masks areas) (λ k. refusedLayout k cs)
+    (arranged golden cs factor (regions masks areas))
+unfolding layout ifAccepted arranged refusedLayout
+layout-answers cs factor masks areas =
+    by-number (λ l. l .result .refusal) (λ k. refusedLayout k cs) (λ k. ifAccepted k cs (arranged golden cs factor (regions masks areas))) refl (λ k. refl) (λ k. refl)
+    (layoutRefusal cs factor masks areas)

@@ -1,0 +1,89 @@
+-- Each entry point's number, read off its checks both ways.
+use Prim.Native.Nat.{ℕ, suc}
+use native.Mathlib.Omega.{arith}
+use mathlib.Core.Logic.{_≢_}
+use mathlib.Core.Bool.{not, _&&_, _||_}
+use mathlib.Core.List.{List, [], _∷_}
+use lib.ListN.{length}
+use lib.Dec.{eqb}
+use lib.Ieee.{Float, isNan}
+use Rattle.shapes.specs.declared.point.Point.{Point}
+use Rattle.shapes.specs.declared.circle.Circle.{Circle}
+use Rattle.shapes.specs.declared.rectangle.Rectangle.{Rectangle}
+use Rattle.scope.specs.Numbers.{_<ᶠ_, nought}
+use Rattle.scope.specs.Runs.{any}
+use Rattle.scope.specs.Limits.{circleCap}
+use Rattle.scope.specs.Refusals.{causes, causeHolds, refusal, tooMany, unequal, tooManyRegions, badPoint, badCentre, badRadius, rising, badFactor, badSide, badPadding, pointsRefusal, pairRefusal, circlePointRefusal, circlesRefusal, regionsRefusal, columnsRefusal, packRefusal, containerRefusal, layoutRefusal}
+use Rattle.scope.specs.CardFile.{Card, tag, headCut, bodyCut, unknown, wrongLength, misplaced, fieldRefusal, firstRefusal, nextRefusal}
+use Rattle.laws.proofs.FrontToBack.{Reads, front-to-back-reads, refusal-reads, only-for-its-cause}
+
+pub root-reads : (x : Float) → Reads (refusal ((12, isNan x || (x <ᶠ nought)) ∷ [])) ((12, isNan x || (x <ᶠ nought)) ∷ [])
+unfolding causes
+root-reads x = refusal-reads _ tt tt
+
+pub points-reads : (p q : Point) → Reads (pointsRefusal p q) ((3, badPoint p || badPoint q) ∷ [])
+unfolding pointsRefusal causes
+points-reads p q = refusal-reads _ tt tt
+
+pub pair-reads : (a b : Circle) → Reads (pairRefusal a b) ((3, badCentre a || badCentre b) ∷ (4, badRadius a || badRadius b) ∷ [])
+unfolding pairRefusal causes
+pair-reads a b = refusal-reads _ tt tt
+
+pub circle-point-reads : (c : Circle) (p : Point) → Reads (circlePointRefusal c p) ((3, badCentre c || badPoint p) ∷ (4, badRadius c) ∷ [])
+unfolding circlePointRefusal causes
+circle-point-reads c p = refusal-reads _ tt tt
+
+pub circles-reads : (cs : List Circle) → Reads (circlesRefusal cs) ((1, tooMany (length cs)) ∷ (3, any badCentre cs) ∷ (4, any badRadius cs) ∷ [])
+unfolding circlesRefusal causes
+circles-reads cs = refusal-reads _ tt tt
+
+pub regions-reads : (n : ℕ) (masks : List ℕ) (areas : List Float)
+    → Reads (regionsRefusal n masks areas) ((1, tooMany n) ∷ (13, unequal masks areas) ∷ (2, tooManyRegions (length masks)) ∷ (5, not (rising masks)) ∷ [])
+unfolding regionsRefusal causes
+regions-reads n masks areas = refusal-reads _ tt tt
+
+pub columns-reads : (k : ℕ) → Reads (columnsRefusal k) ((1, tooMany k) ∷ [])
+unfolding columnsRefusal causes
+columns-reads k = refusal-reads _ tt tt
+
+pub pack-reads : (rects : List Rectangle) (padding : Float)
+    → Reads (packRefusal rects padding) ((1, tooMany (length rects)) ∷ (7, any badSide rects) ∷ (8, badPadding padding) ∷ [])
+unfolding packRefusal causes
+pack-reads rects padding = refusal-reads _ tt tt
+
+pub container-reads : (cs : List Circle) (container : Rectangle)
+    → Reads (containerRefusal cs container)
+    ((1, tooMany (length cs)) ∷ (3, any badCentre cs || badPoint (container .center)) ∷ (4, any badRadius cs) ∷ (7, badSide container) ∷ [])
+unfolding containerRefusal causes
+container-reads cs container = refusal-reads _ tt tt
+
+pub layout-reads : (cs : List Circle) (factor : Float) (masks : List ℕ) (areas : List Float)
+    → Reads (layoutRefusal cs factor masks areas)
+    ((1, tooMany (length cs)) ∷ (13, unequal masks areas) ∷ (2, tooManyRegions (length masks)) ∷ (3, any badCentre cs) ∷ (4, any badRadius cs)
+    ∷ (5, not (rising masks)) ∷ (6, badFactor factor) ∷ [])
+unfolding layoutRefusal causes
+layout-reads cs factor masks areas = refusal-reads _ tt tt
+
+-- ---- the card file: each call's checks run front to back as they stand
+
+pub field-reads : (rest : List ℕ)
+    → Reads (fieldRefusal rest) ((11, headCut rest) ∷ (9, unknown (tag rest)) ∷ (10, wrongLength rest) ∷ (11, bodyCut rest) ∷ [])
+unfolding fieldRefusal
+field-reads rest = front-to-back-reads _ tt
+
+pub first-field-reads : (file : List ℕ)
+    → Reads (firstRefusal file) ((9, eqb (length file) 0) ∷ (11, headCut file) ∷ (9, not (eqb (tag file) 1)) ∷ (10, wrongLength file) ∷ (11, bodyCut file) ∷ [])
+unfolding firstRefusal
+first-field-reads file = front-to-back-reads _ tt
+
+pub next-field-reads : (card : Card) (rest : List ℕ)
+    → Reads (nextRefusal card rest)
+    ((11, headCut rest) ∷ (9, misplaced card (tag rest)) ∷ (1, eqb (tag rest) 2 && tooMany (suc (length (card .circles))))
+    ∷ (2, eqb (tag rest) 3 && tooManyRegions (suc (length (card .masks)))) ∷ (10, wrongLength rest) ∷ (11, bodyCut rest) ∷ [])
+unfolding nextRefusal
+next-field-reads card rest = front-to-back-reads _ tt
+
+-- two circles are never "too many"
+pub two-circles-not-1 : (a b : Circle) (factor : Float) (masks : List ℕ) (areas : List Float) → layoutRefusal (a ∷ b ∷ []) factor masks areas ≢ 1
+unfolding causeHolds tooMany circleCap
+two-circles-not-1 a b factor masks areas e = only-for-its-cause (layout-reads (a ∷ b ∷ []) factor masks areas) 1 (omega arith) e

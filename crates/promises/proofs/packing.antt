@@ -1,0 +1,21 @@
+-- Packing and centring: sizes, lines of the grid, and the gap between clusters.
+pub mod Folds
+pub mod Places
+pub mod Cells
+pub mod BoxSides
+pub mod Sizes
+pub mod Shift
+pub mod Gap
+pub mod KeptGap
+pub mod Centred
+pub mod Grid
+pub mod PackedCircles
+pub mod Packed
+pub mod NoShift
+pub mod BoxMiddle
+pub mod Returned
+pub mod Columns
+pub mod Raised
+pub mod Proportions
+pub mod ClusterBoxes
+pub mod Arrangement

@@ -1,0 +1,5 @@
+-- The whole layout: the stages put together.
+pub mod Kept
+pub mod SixtyFour
+pub mod Demand3
+pub mod PackingAccepts

@@ -1,0 +1,144 @@
+-- Demand 3, whole: of an accepted layout whose numbers are f64, the gap, the distance, the reach and the chain, at 2^-16.
+use mathlib.Core.Path.{_≡_, sym, _∙_, subst}
+use mathlib.Core.Logic.{inr}
+use mathlib.Core.List.{List}
+use Prim.Native.Nat.{ℕ, _+_, _≤_, _<_}
+use lib.Dec.{T, lit≤}
+use lib.ListN.{length, getD}
+use lib.Ieee.{Float, binary64, fits}
+use Rattle.rounding.specs.Scale.{pow2}
+use Rattle.shapes.specs.declared.circle.Circle.{Circle}
+use Rattle.scope.specs.Numbers.{golden}
+use Rattle.scope.specs.Limits.{circleCap, radiusOk, factorOk}
+use Rattle.scope.specs.Runs.{filled}
+use Rattle.scope.specs.Links.{Region, regions, circle}
+use Rattle.scope.specs.Groups.{Clusters, clusters}
+use Rattle.scope.specs.Tolerance.{tolerance}
+use Rattle.scope.specs.Offset.{offset}
+use Rattle.scope.specs.Gauge.{gauged}
+use Rattle.scope.specs.Padding.{boxes, padding, packClusters}
+use Rattle.scope.specs.Centring.{centredLayout}
+use Rattle.scope.specs.Layout.{Layout, arranged}
+use Rattle.scope.specs.Promises.{Chain, Promises}
+use Rattle.promises.specs.Demand3.{bound, gapBound, Demand3, Apart}
+use Rattle.laws.proofs.Runs.{getD-filled-any}
+use Rattle.laws.proofs.Numbering.{Numbering}
+use Rattle.laws.proofs.Clusters.{clusters-numbering, same-number-iff-chain, same-filled-number-iff-chain}
+use Rattle.laws.proofs.Accepted.{layout-accepted-iff}
+use Rattle.laws.proofs.AfterRefusal.{layout-answers}
+use Rattle.promises.proofs.numbers.Ranges.{Sound, circle-accepted}
+use Rattle.promises.proofs.gauge.Carried.{Shifted}
+use Rattle.promises.proofs.gauge.AllClusters.{ClustersCarried, clusters-shifted}
+use Rattle.promises.proofs.offset.AfterOffset.{offset-length}
+use Rattle.promises.proofs.gauge.AfterGauge.{after-gauge-length, gauge-carries-clusters, gauge-keeps-radius, gauge-places, gauge-spread, shifts-error-small}
+use Rattle.promises.proofs.whole.Kept.{finite-kept, distance-promised, reach-promised}
+use Rattle.promises.proofs.packing.Returned.{Arranged}
+use Rattle.promises.proofs.packing.KeptGap.{apart-looser}
+use Rattle.promises.proofs.packing.Shift.{Step}
+use Rattle.promises.proofs.whole.SixtyFour.{Gauged64, padding-64, golden-arranged-64}
+
+-- ---- the layout of accepted circles
+module _ (cs : List Circle) (rs : List Region) (factor : Float) (sound : (i : ℕ) → i < length cs → Sound (circle cs i)) (radius-fits : (i : ℕ) → i < length cs → T (fits binary64 (circle cs i .radius)))
+    (radius-ok : (i : ℕ) → i < length cs → T (radiusOk (circle cs i .radius))) (factor-fits : T (fits binary64 factor)) (factor-ok : T (factorOk factor)) (few : length cs ≤ circleCap) where
+  abbrev n : ℕ
+  n = length cs
+
+  abbrev g : Clusters
+  g = clusters n rs (tolerance rs)
+
+  abbrev before : List Circle
+  before = offset cs rs .circles
+
+  abbrev turned : List Circle
+  turned = gauged (g .count) (g .numbers) before
+
+  abbrev pad : Float
+  pad = padding (boxes (g .count) (g .numbers) turned) factor
+
+  abbrev last : List Circle
+  last = centredLayout (packClusters golden (g .numbers) (boxes (g .count) (g .numbers) turned) pad turned)
+
+  numbering : Numbering n g
+  numbering = clusters-numbering n rs (tolerance rs)
+
+  turned-length : length turned ≡ n
+  turned-length = after-gauge-length cs rs sound (g .count) (g .numbers)
+
+  below : {i : ℕ} → i < length turned → i < n
+  below h = rw turned-length at h
+
+  pub handed-over : Gauged64 g turned
+  handed-over = record {
+    numbering = rw turned-length numbering;
+    few = rw turned-length few;
+    x = λ j l. let p = gauge-places cs rs sound (g .count) (g .numbers) (numbering .inside) j (below l) in record { fin = p .fin-x; within = p .within-x };
+    y = λ j l. let p = gauge-places cs rs sound (g .count) (g .numbers) (numbering .inside) j (below l) in record { fin = p .fin-y; within = p .within-y };
+    radius-fits = λ j l. rw (gauge-keeps-radius cs rs sound (g .count) (g .numbers) (numbering .inside) j (below l)) (radius-fits j (below l));
+    radius-ok = λ j l. rw (gauge-keeps-radius cs rs sound (g .count) (g .numbers) (numbering .inside) j (below l)) (radius-ok j (below l));
+    spread-x = λ j m l k e. gauge-spread cs rs sound (g .count) (g .numbers) (numbering .inside) j m (below l) (below k) e .0;
+    spread-y = λ j m l k e. gauge-spread cs rs sound (g .count) (g .numbers) (numbering .inside) j m (below l) (below k) e .1;
+  }
+
+  packed : Arranged 37 38 gapBound (g .numbers) pad turned last
+  packed = golden-arranged-64 handed-over factor factor-fits factor-ok
+
+  -- after the shift of each cluster and before the centring
+  between : ℕ → Circle
+  between k = circle (packed .packed) k
+
+  placed-in : (k : ℕ) → k < length before → k < length turned
+  placed-in k h = rw (turned-length ∙ sym (offset-length cs rs)) h
+
+  one-shift : {i : ℕ} {dx dy : Float} {c out : Circle} → Step i dx dy c out → Shifted i dx dy c out
+  one-shift h = record { fin-x = h .x .fin; fin-y = h .y .fin; room-x = h .x .room; room-y = h .y .room; x = h .x .is; y = h .y .is; radius = h .radius }
+
+  first-shift : (k : ℕ) → k < length before → Shifted 37 (packed .clusterX (getD (g .numbers) k 0)) (packed .clusterY (getD (g .numbers) k 0)) (circle turned k) (between k)
+  unfolding between
+  first-shift k h = one-shift (packed .first k (placed-in k h))
+
+  second-shift : (k : ℕ) → k < length before → Shifted 38 (packed .layoutX) (packed .layoutY) (between k) (circle last k)
+  unfolding between
+  second-shift k h = one-shift (packed .second k (placed-in k h))
+
+  carried : ClustersCarried (pow2 34 + pow2 33 + pow2 37 + pow2 38) (pow2 92) (g .count) (g .numbers) before last
+  carried =
+      clusters-shifted (g .count) (g .numbers) before turned last 37 38 tt tt (packed .clusterX) (packed .clusterY) (packed .layoutX) (packed .layoutY) between first-shift second-shift
+      (gauge-carries-clusters cs rs sound (g .count) (g .numbers))
+
+  gap-slack : gapBound ≤ bound
+  gap-slack = unfold pow2 in lit≤ tt
+
+  numbered : (i : ℕ) → getD (filled circleCap 0 (g .numbers)) i 0 ≡ getD (g .numbers) i 0
+  numbered i = getD-filled-any circleCap 0 (g .numbers) i
+
+  same : (i j : ℕ) → getD (filled circleCap 0 (g .numbers)) i 0 ≡ getD (filled circleCap 0 (g .numbers)) j 0 → getD (g .numbers) i 0 ≡ getD (g .numbers) j 0
+  same i j e = sym (numbered i) ∙ e ∙ numbered j
+
+  together : (i j : ℕ) → i < n → j < n → Chain n (tolerance rs) rs i j → getD (g .numbers) i 0 ≡ getD (g .numbers) j 0
+  together i j hi hj c = same-number-iff-chain n rs (tolerance rs) i j hi hj .1 (inr c)
+
+  pub arranged-promises : Promises bound cs rs (arranged golden cs factor rs .result) (arranged golden cs factor rs .circles)
+  unfolding arranged
+  arranged-promises =
+      record {
+        padding = padding-64 handed-over factor factor-fits factor-ok .fin;
+        finite = finite-kept cs rs sound (g .count) (g .numbers) last _ _ shifts-error-small (numbering .inside) together carried;
+        gap = λ i j hi hj d. apart-looser gap-slack pad (circle last i) (circle last j) (packed .gap i j (rw turned-length hi) (rw turned-length hj) (λ e. d (numbered i ∙ e ∙ sym (numbered j))));
+        distance = λ i j hi hj e. distance-promised cs rs sound (g .count) (g .numbers) last _ _ shifts-error-small (numbering .inside) together carried i j hi hj (same i j e);
+        reach = reach-promised cs rs sound (g .count) (g .numbers) last _ _ shifts-error-small (numbering .inside) together carried;
+        chain = λ i j hi hj. same-filled-number-iff-chain n rs (tolerance rs) i j hi hj circleCap;
+      }
+
+-- ---- of an accepted call, whose floats are f64
+pub layout-promises : Demand3
+unfolding Demand3
+layout-promises cs factor masks areas d h =
+    let a = layout-accepted-iff cs factor masks areas .0 h in
+    let e = layout-answers cs factor masks areas .on-acceptance h in
+    subst (λ (l : Layout). Promises bound cs (regions masks areas) (l .result) (l .circles)) (sym e)
+    (arranged-promises cs (regions masks areas) factor (λ i l. circle-accepted (circle cs i) (d .x i l) (d .y i l) (d .radius i l) (a .centres i l .0) (a .centres i l .1) (a .radii i l)) (d .radius) (a .radii) (d .factor) (a .factor-inside)
+    (a .few-circles))
+
+pub layout-apart : Apart
+unfolding Apart
+layout-apart cs factor masks areas d h = unfold Demand3 in layout-promises cs factor masks areas d h .gap

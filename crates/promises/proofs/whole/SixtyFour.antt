@@ -1,0 +1,115 @@
+-- Document 01's numbers: 64 circles with radii from 2^-20 to 2^20, sides of at most 2^23, padding of at most 2^26. Up to 16 columns and rows the gap is short
+-- of the padding by at most 2^-19, and that many serve every proportion from 1/4 to 4; 1.618 needs 11.
+use Prim.Native.Nat.{ℕ, _+_, _*_, _≤_, _<_}
+use native.Mathlib.Omega.{arith}
+use mathlib.Core.Path.{_≡_}
+use mathlib.Core.List.{List}
+use lib.Dec.{T, lit≤}
+use lib.ListN.{length}
+use lib.Ieee.{Float, binary64, fits}
+use Rattle.algebra.specs.Integer.{Z, nat, Within, _⊖_, _≼_, _≺_}
+use Rattle.rounding.specs.Scale.{pow2}
+use Rattle.shapes.specs.declared.circle.Circle.{Circle}
+use Rattle.scope.specs.Numbers.{golden}
+use Rattle.scope.specs.Limits.{circleCap, radiusOk, factorOk}
+use Rattle.scope.specs.Links.{circle}
+use Rattle.scope.specs.Groups.{Clusters}
+use Rattle.scope.specs.Packing.{columns, rectangle}
+use Rattle.scope.specs.Padding.{boxes, padding}
+use Rattle.scope.specs.Promises.{units}
+use Rattle.promises.specs.Demand3.{gapBound}
+use Rattle.laws.proofs.Numbering.{Numbering, numberIn}
+use Rattle.promises.proofs.numbers.Bounded.{Bounded, Upto}
+use Rattle.promises.proofs.numbers.InRange.{radius-bounded, radius-at-least, radius-lifted, factor-bounded, factor-not-negative}
+use Rattle.promises.proofs.packing.Columns.{GridFits, grid-wider, golden-grid-fits}
+use Rattle.promises.proofs.packing.Proportions.{Proportion, grid-fits-64}
+use Rattle.promises.proofs.packing.ClusterBoxes.{Clustered}
+use Rattle.promises.proofs.packing.Returned.{Arranged, returned}
+use Rattle.promises.proofs.packing.Arrangement.{Budget, arranged, width-is-upto, height-is-upto, padding-bounded, padding-not-negative}
+
+-- how far apart the centres of one cluster are on an axis, in units: (23/4) 2^20 and 2^-16
+abbrev pub spread64 : ℕ
+spread64 = 23 * pow2 78 + pow2 44
+
+pub budget64 : Budget 35 37 38 23 3 16 (pow2 87) (pow2 80) spread64 gapBound
+unfolding pow2
+budget64 = record {
+  th = tt;
+  ti = tt;
+  to = tt;
+  ts = tt;
+  few = lit≤ tt;
+  finer = lit≤ tt;
+  sides = lit≤ tt;
+  lengths = lit≤ tt;
+  positions = lit≤ tt;
+  ends = lit≤ tt;
+  answers = lit≤ tt;
+  slack = lit≤ tt;
+}
+
+-- so `middle-x` and `middle-y` put the middle of the box within 2^-20 of the origin
+pub middle-fits-64 : 2 * pow2 37 + 4 * pow2 38 ≤ 2 * pow2 40
+unfolding pow2
+middle-fits-64 = lit≤ tt
+
+-- ---- what the gauge hands over: the circles of a layout with their cluster numbers
+pub record Gauged64 (g : Clusters) (cs : List Circle) : Type 0 where
+  pub numbering : Numbering (length cs) g
+  pub few : length cs ≤ circleCap
+  pub x : (j : ℕ) → j < length cs → Bounded (pow2 87) (circle cs j .center .x)
+  pub y : (j : ℕ) → j < length cs → Bounded (pow2 87) (circle cs j .center .y)
+  pub radius-fits : (j : ℕ) → j < length cs → T (fits binary64 (circle cs j .radius))
+  pub radius-ok : (j : ℕ) → j < length cs → T (radiusOk (circle cs j .radius))
+  pub spread-x : (j m : ℕ) → j < length cs → m < length cs → numberIn g j ≡ numberIn g m → Within (units (circle cs j .center .x) ⊖ units (circle cs m .center .x)) spread64
+  pub spread-y : (j m : ℕ) → j < length cs → m < length cs → numberIn g j ≡ numberIn g m → Within (units (circle cs j .center .y) ⊖ units (circle cs m .center .y)) spread64
+
+module _ {g : Clusters} {cs : List Circle} (G : Gauged64 g cs) where
+  clustered : Clustered (pow2 87) (pow2 80) spread64 (pow2 35) (g .count) (g .numbers) cs
+  clustered = record {
+    circles = λ j l. let r = circle cs j .radius in record { x = G .x j l; y = G .y j l; radius = radius-bounded r (G .radius-fits j l) (G .radius-ok j l); lifted = radius-lifted r (G .radius-ok j l) };
+    thick = λ j l. above (units (circle cs j .radius)) (radius-at-least (circle cs j .radius) (G .radius-fits j l) (G .radius-ok j l));
+    numbered = G .numbering .inside;
+    used = λ a l. let u = G .numbering .used a l in (u .0, u .1 .below, u .1 .has);
+    spread-x = G .spread-x;
+    spread-y = G .spread-y;
+  }
+    where
+      apart : pow2 35 < pow2 40
+      apart = unfold pow2 in lit≤ tt
+
+      above : (r : Z) → nat (pow2 40) ≼ r → nat (pow2 35) ≺ r
+      above r h = omega (arith, apart)
+
+  pub few-clusters : g .count ≤ 64
+  unfolding circleCap
+  few-clusters = omega (arith, G .few, G .numbering .few)
+
+  module _ (factor : Float) (fit : T (fits binary64 factor)) (ok : T (factorOk factor)) where
+    abbrev pad : Float
+    pad = padding (boxes (g .count) (g .numbers) cs) factor
+
+    -- sides are at most 2^23, padding at most 2^26: the packing's own ranges
+    pub width-64 : (a : ℕ) → a < g .count → Upto (pow2 83) (rectangle (boxes (g .count) (g .numbers) cs) a .width)
+    width-64 = width-is-upto budget64 clustered few-clusters factor (factor-bounded factor fit ok)
+
+    pub height-64 : (a : ℕ) → a < g .count → Upto (pow2 83) (rectangle (boxes (g .count) (g .numbers) cs) a .height)
+    height-64 = height-is-upto budget64 clustered few-clusters factor (factor-bounded factor fit ok)
+
+    pub padding-64 : Bounded (pow2 86) pad
+    padding-64 = padding-bounded budget64 clustered few-clusters factor (factor-bounded factor fit ok)
+
+    pub padding-not-negative-64 : nat 0 ≼ units pad
+    padding-not-negative-64 = padding-not-negative budget64 clustered few-clusters factor (factor-bounded factor fit ok) (factor-not-negative factor fit ok)
+
+    -- any proportion whose grid has at most 16 columns and rows
+    pub arranged-64 : (proportion : Float) → (2 ≤ g .count → GridFits 16 (g .count) (columns (g .count) proportion))
+        → Arranged 37 38 gapBound (g .numbers) pad cs (returned proportion (g .count) (g .numbers) cs pad)
+    arranged-64 proportion grid = arranged budget64 clustered few-clusters factor (factor-bounded factor fit ok) proportion grid
+
+    -- any from 1/4 to 4
+    pub proportion-arranged-64 : (proportion : Float) → Proportion proportion → Arranged 37 38 gapBound (g .numbers) pad cs (returned proportion (g .count) (g .numbers) cs pad)
+    proportion-arranged-64 proportion P = arranged-64 proportion (λ many. grid-fits-64 (g .count) (omega arith) few-clusters proportion P)
+
+    pub golden-arranged-64 : Arranged 37 38 gapBound (g .numbers) pad cs (returned golden (g .count) (g .numbers) cs pad)
+    golden-arranged-64 = arranged-64 golden (λ many. grid-wider (omega arith) (golden-grid-fits (g .count) (omega arith) few-clusters))
