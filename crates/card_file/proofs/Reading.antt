@@ -14,7 +14,7 @@ use Rattle.shapes.specs.declared.circle.Circle.{Circle}
 use Rattle.scope.specs.Numbers.{nought}
 use Rattle.scope.specs.Limits.{circleCap, regionCap}
 use Rattle.scope.specs.Refusals.{Answer, refused, given, tooMany, tooManyRegions}
-use Rattle.scope.specs.CardFile.{Card, tag, body, bodyLength, headLength, bodyCut, misplaced, word, floatOf, circleOf, withField, firstRefusal, nextRefusal, orRefused, fields, readFile}
+use Rattle.scope.specs.CardFile.{Card, tag, body, bodyLength, headLength, bodyCut, misplaced, word, floatOf, circleFrom, withField, firstRefusal, nextRefusal, orRefused, fields, readFile}
 use Rattle.laws.proofs.Cases.{is-false, and-iff, or-iff, not-not-iff, eqb-iff, not-ltb-iff}
 use Rattle.laws.proofs.EntryPoints.{first-field-reads, next-field-reads}
 use Rattle.intake.specs.Blanks.{blank}
@@ -90,9 +90,9 @@ module _ (card : Card) (rest : List ℕ) (accepted : nextRefusal card rest ≡ 0
 
 module _ (factor : Float) (n : ℕ) (circles : List Circle) (m : ℕ) (masks patterns : List ℕ) (areas : List Float) (rest : List ℕ) where
   pub circle-added : tag rest ≡ 2 → n < maxCircles → Uses maxCircles blank n circles
-      → withField (listed factor n circles m masks patterns areas) rest ≡ listed factor (n + 1) (set circles n (circleOf (body rest))) m masks patterns areas
+      → withField (listed factor n circles m masks patterns areas) rest ≡ listed factor (n + 1) (set circles n (circleFrom (body rest))) m masks patterns areas
   unfolding withField
-  circle-added t h u = rw (eq-eqb (tag rest) 2 t, used-next (circleOf (body rest)) h u)
+  circle-added t h u = rw (eq-eqb (tag rest) 2 t, used-next (circleFrom (body rest)) h u)
 
   pub region-added : (tag rest ≡ 2 → ⊥) → m < maxRegions → Uses maxRegions 0 m masks → Uses maxRegions 0 m patterns → Uses maxRegions nought m areas
       → withField (listed factor n circles m masks patterns areas) rest
@@ -145,7 +145,7 @@ module _ {file : List ℕ} {start : ℕ} {factor : Float} {n : ℕ} {circles : L
 
     module _ (accepted : nextRefusal (listed factor n circles m masks patterns areas) (drop at file) ≡ 0) where
       pub with-circle : tag (drop at file) ≡ 2
-          → SoFar file start factor (n + 1) (set circles n (circleOf (body (drop at file)))) m masks patterns areas (at + (headLength + bodyLength (tag (drop at file))))
+          → SoFar file start factor (n + 1) (set circles n (circleFrom (body (drop at file)))) m masks patterns areas (at + (headLength + bodyLength (tag (drop at file))))
       with-circle t =
           let room = circle-fits accepted t in
           record {

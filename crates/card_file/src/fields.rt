@@ -4,7 +4,7 @@ ghost use Prim.Native.Nat.{_+_, _≤_};
 ghost use mathlib.Core.List.{[], _∷_};
 ghost use lib.ListN.{length, drop};
 ghost use Rattle.scope.specs.Refusals.{frontToBack};
-ghost use Rattle.scope.specs.CardFile.{tag, statedLength, bodyLength, body, headCut, bodyCut, unknown, wrongLength, circleOf, fieldRefusal, readField, fieldBody, headLength};
+ghost use Rattle.scope.specs.CardFile.{tag, statedLength, bodyLength, body, headCut, bodyCut, unknown, wrongLength, circleFrom, fieldRefusal, readField, fieldBody, headLength};
 ghost use Rattle.card_file.specs.Answers.{fieldAnswer};
 ghost use Rattle.card_file.specs.Parts.{StartsAt, bodyPlace};
 use crate::words::byte_at;
@@ -109,7 +109,7 @@ pub(crate) fn body_at<'a>(file: &'a [u8], at: usize) -> &'a [u8]
 
 // A circle's body: x, y, radius.
 pub(crate) fn circle_of(body: &[u8]) -> Circle
-    ensures { λ r. ⌜ r ≡ circleOf (now (body .entry)) ⌝ }
+    ensures { λ r. ⌜ r ≡ circleFrom (now (body .entry)) ⌝ }
 {
     let x = float_of(word_at(body, 0));
     let y = float_of(word_at(body, 8));

@@ -23,7 +23,8 @@ use Rattle.scope.specs.Centring.{allTranslated}
 use Rattle.laws.proofs.Cases.{or-iff}
 use Rattle.laws.proofs.Runs.{length-tab, getD-tab, tab-equal, any-at, someBelow-iff}
 use Rattle.intake.specs.Limits.{maxCircles}
-use Rattle.intake.specs.Columns.{circleOf, at, circlesOf, xsOf, ysOf, radiiOf, widthsOf, heightsOf, each, members, Lifted}
+use Rattle.shapes.specs.Records.{circleOf}
+use Rattle.intake.specs.Columns.{at, circlesOf, xsOf, ysOf, radiiOf, widthsOf, heightsOf, each, members, Lifted}
 use Rattle.intake.proofs.InPlace.{so-far, rewritten, all-rewritten}
 
 -- ---- a loop over a whole list that writes each element anew: its end, and what it has not come to yet

@@ -40,13 +40,13 @@ abbrev pub F64s : RattleType
 F64s = Array f64 maxCircles
 
 -- the literal 0.0, and an array of it as it is made
-abbrev pub blank : Float
-blank = ofBits binary64 0
+abbrev pub zeroFloat : Float
+zeroFloat = ofBits binary64 0
 
 abbrev pub blanks : ℕ → List Float
-blanks n = replicate n blank
+blanks n = replicate n zeroFloat
 
-pub blank-is : IsF blank
+pub blank-is : IsF zeroFloat
 unfolding fits ofBits
 blank-is = (refl, refl)
 

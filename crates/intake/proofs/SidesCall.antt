@@ -53,14 +53,14 @@ module _ (κ : Lft) (q : Share) (x₀ : RefT (List Rectangle)) (us vs : List Flo
   args = (x₀, (refTo b₁ 0 γ₁ us, (refTo b₂ 0 γ₂ vs, tt)))
 
 module _ {M : Type 1} (𝓤 : URA M) (H : Heap 𝓤) (A : Atoms 𝓤) (at-mem : Memory → SProp 𝓤) (run : Routine → Fun 𝓤) where
-  abbrev pub Sides : Contract 𝓤
-  Sides = tripleOf 𝓤 H A split′.signature (split′.spec 𝓤 H A at-mem run)
+  abbrev pub SidesContract : Contract 𝓤
+  SidesContract = tripleOf 𝓤 H A split′.signature (split′.spec 𝓤 H A at-mem run)
 
   module _ (κ : Lft) (q : Share) (x₀ : RefT (List Rectangle)) (us vs : List Float) (b₁ b₂ : ℕ) (ν₁ ν₂ : ℕ) (γ₁ γ₂ : GName) where
     abbrev toks : Item 𝓤
     toks = ‵ (flft κ q) ⊛ ‵ (flft (ν₁ ∷ []) fullShare) ⊛ ‵ (flft (ν₂ ∷ []) fullShare) ⊛ ‵ ftrue
 
-    abbrev to-sides : Sides .Ghost
+    abbrev to-sides : SidesContract .Ghost
     to-sides = ((lfts κ q x₀ us vs b₁ b₂ ν₁ ν₂ γ₁ γ₂, (q, (fullShare, (fullShare, tt))), tt, args κ q x₀ us vs b₁ b₂ ν₁ ν₂ γ₁ γ₂, (sliceVal (x₀ .ptr) (length (x₀ .now)) ∷ [], (vptr b₁ 0 ∷ [], (vptr b₂ 0 ∷ [], tt)))), tt)
 
     abbrev Arr : ℕ → ℕ → ℕ → GName → List Float → Fml
@@ -69,12 +69,12 @@ module _ {M : Type 1} (𝓤 : URA M) (H : Heap 𝓤) (A : Atoms 𝓤) (at-mem : 
     abbrev Handed : List (Item 𝓤)
     Handed = ‵ (ShrSlice (named 0) κ T.the-row .own x₀ (sliceVal (x₀ .ptr) (length (x₀ .now)) ∷ [])) ∷ ‵ (flft κ q) ∷ ‵ (Arr 1 ν₁ b₁ γ₁ us) ∷ ‵ (flft (ν₁ ∷ []) fullShare) ∷ ‵ (Arr 2 ν₂ b₂ γ₂ vs) ∷ ‵ (flft (ν₂ ∷ []) fullShare) ∷ []
 
-    goes-sides : Given 𝓤 H A → ent 𝓤 (⋆ 𝓤 H A Handed) (Sides .pre to-sides)
+    goes-sides : Given 𝓤 H A → ent 𝓤 (⋆ 𝓤 H A Handed) (SidesContract .pre to-sides)
     goes-sides W = qed W Handed ∵ nothing ! $ move ! (5 ∷ 0 ∷ []) $ fjoin ! $ move ! (3 ∷ 0 ∷ []) $ fjoin ! $ move ! (1 ∷ 0 ∷ []) $ fjoin ! $ nothing ! $ move ! (4 ∷ 0 ∷ []) $ join ! $ move ! (3 ∷ 0 ∷ []) $ join ! $ move ! (2 ∷ 0 ∷ []) $ join ! $ join ! $ frame ! $ done !
 
 module _ {M : Type 1} {𝓤 : URA M} {H : Heap 𝓤} {A : Atoms 𝓤} {K : Type 0} {W : Given 𝓤 H A} {Γ : List (Item 𝓤)} {C : Calls 𝓤 H} {Λ : Loops 𝓤 H} {E : Env 𝓤 H} {q₀ : Post 𝓤 H} {d : Place} {rest : Body} {os : List Operand} where
   -- of a run that is lent to be read; its lifetime's token comes back
-  pub splits-sides : K → FmC 𝓤 H (W .laws) C → (at-mem : Memory → SProp 𝓤) (run : Routine → Fun 𝓤) → Triple 𝓤 (C #split) (Sides 𝓤 H A at-mem run)
+  pub splits-sides : K → FmC 𝓤 H (W .laws) C → (at-mem : Memory → SProp 𝓤) (run : Routine → Fun 𝓤) → Triple 𝓤 (C #split) (SidesContract 𝓤 H A at-mem run)
       → (κ : Lft) (q : Share) (x₀ : RefT (List Rectangle)) (us vs : List Float) (b₁ b₂ : ℕ)
       → ((p i₁ i₂ : Item 𝓤) → Opds K W (p ∷ i₁ ∷ i₂ ∷ Γ) E os (sliceVal (x₀ .ptr) (length (x₀ .now)) ∷ vptr b₁ 0 ∷ vptr b₂ 0 ∷ []))
       → (countRefusal (length (x₀ .now)) < 2 ^ 8 → Seq K W (‵ (flft κ q) ∷ ‵ (partAt F64s fullShare (splitOf widthsOf (x₀ .now) us) b₁ 0) ∷ ‵ (partAt F64s fullShare (splitOf heightsOf (x₀ .now) vs) b₂ 0) ∷ Γ) (lands C Λ E d (vint w8 (countRefusal (length (x₀ .now)))) rest q₀))
@@ -82,9 +82,9 @@ module _ {M : Type 1} {𝓤 : URA M} {H : Heap 𝓤} {A : Atoms 𝓤} {K : Type 
   splits-sides t fm at-mem run known κ q x₀ us vs b₁ b₂ reads k =
       move t (2 ∷ []) $ lent-to-write t tt F64s (named 1) us b₁ 0 (λ ν₁ γ₁.
       move t (5 ∷ []) $ lent-to-write t tt F64s (named 2) vs b₂ 0 (λ ν₂ γ₂.
-      move t (6 ∷ 7 ∷ 3 ∷ 4 ∷ 0 ∷ 1 ∷ []) $ group t 6 $ use1 W (raw (Sides 𝓤 H A at-mem run .pre (to-sides 𝓤 H A at-mem run κ q x₀ us vs b₁ b₂ ν₁ ν₂ γ₁ γ₂))) (goes-sides 𝓤 H A at-mem run κ q x₀ us vs b₁ b₂ ν₁ ν₂ γ₁ γ₂ W) $
+      move t (6 ∷ 7 ∷ 3 ∷ 4 ∷ 0 ∷ 1 ∷ []) $ group t 6 $ use1 W (raw (SidesContract 𝓤 H A at-mem run .pre (to-sides 𝓤 H A at-mem run κ q x₀ us vs b₁ b₂ ν₁ ν₂ γ₁ γ₂))) (goes-sides 𝓤 H A at-mem run κ q x₀ us vs b₁ b₂ ν₁ ν₂ γ₁ γ₂ W) $
       -- [the pre; what is lent; Γ]
-      calls-at t fm (Sides 𝓤 H A at-mem run) known (to-sides 𝓤 H A at-mem run κ q x₀ us vs b₁ b₂ ν₁ ν₂ γ₁ γ₂) (reads _ _ _) (λ v.
+      calls-at t fm (SidesContract 𝓤 H A at-mem run) known (to-sides 𝓤 H A at-mem run κ q x₀ us vs b₁ b₂ ν₁ ν₂ γ₁ γ₂) (reads _ _ _) (λ v.
       use1 W (later (some (λ (r : ℕ). (toks 𝓤 H A at-mem run κ q x₀ us vs b₁ b₂ ν₁ ν₂ γ₁ γ₂ ⊛ ‵ (u8 .own r (v ∷ []))) ⊛ raw (ensured 𝓤 H A split′.ended (split′.clauses 𝓤 H A at-mem run) (lfts κ q x₀ us vs b₁ b₂ ν₁ ν₂ γ₁ γ₂) (args κ q x₀ us vs b₁ b₂ ν₁ ν₂ γ₁ γ₂) tt r)))) (id⊢ 𝓤 _) $ await t tt $ pick t (λ r.
       split t $ move t (1 ∷ []) $ use1 W (some (λ (ws : Lasts split′.ended (lfts κ q x₀ us vs b₁ b₂ ν₁ ν₂ γ₁ γ₂) (args κ q x₀ us vs b₁ b₂ ν₁ ν₂ γ₁ γ₂)). ‵ (lasts split′.ended (lfts κ q x₀ us vs b₁ b₂ ν₁ ν₂ γ₁ γ₂) (args κ q x₀ us vs b₁ b₂ ν₁ ν₂ γ₁ γ₂) ws) ⊛ raw (fact 𝓤 (Said (x₀ .now) us vs r (ws .1 .0) (ws .1 .1 .0))))) (id⊢ 𝓤 _) $ pick t (λ ws.
       split t $ move t (1 ∷ []) $ heard t (Said (x₀ .now) us vs r (ws .1 .0) (ws .1 .1 .0)) (λ e.

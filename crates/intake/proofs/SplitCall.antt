@@ -54,14 +54,14 @@ module _ (κ : Lft) (q : Share) (x₀ : RefT (List Circle)) (xs ys rs : List Flo
   args = (x₀, (refTo b₁ 0 γ₁ xs, (refTo b₂ 0 γ₂ ys, (refTo b₃ 0 γ₃ rs, tt))))
 
 module _ {M : Type 1} (𝓤 : URA M) (H : Heap 𝓤) (A : Atoms 𝓤) (at-mem : Memory → SProp 𝓤) (run : Routine → Fun 𝓤) where
-  abbrev pub Split : Contract 𝓤
-  Split = tripleOf 𝓤 H A split′.signature (split′.spec 𝓤 H A at-mem run)
+  abbrev pub SplitContract : Contract 𝓤
+  SplitContract = tripleOf 𝓤 H A split′.signature (split′.spec 𝓤 H A at-mem run)
 
   module _ (κ : Lft) (q : Share) (x₀ : RefT (List Circle)) (xs ys rs : List Float) (b₁ b₂ b₃ : ℕ) (ν₁ ν₂ ν₃ : ℕ) (γ₁ γ₂ γ₃ : GName) where
     abbrev toks : Item 𝓤
     toks = ‵ (flft κ q) ⊛ ‵ (flft (ν₁ ∷ []) fullShare) ⊛ ‵ (flft (ν₂ ∷ []) fullShare) ⊛ ‵ (flft (ν₃ ∷ []) fullShare) ⊛ ‵ ftrue
 
-    abbrev to-split : Split .Ghost
+    abbrev to-split : SplitContract .Ghost
     to-split = ((lfts κ q x₀ xs ys rs b₁ b₂ b₃ ν₁ ν₂ ν₃ γ₁ γ₂ γ₃, (q, (fullShare, (fullShare, (fullShare, tt)))), tt, args κ q x₀ xs ys rs b₁ b₂ b₃ ν₁ ν₂ ν₃ γ₁ γ₂ γ₃, (sliceVal (x₀ .ptr) (length (x₀ .now)) ∷ [], (vptr b₁ 0 ∷ [], (vptr b₂ 0 ∷ [], (vptr b₃ 0 ∷ [], tt))))), tt)
 
     abbrev Arr : ℕ → ℕ → ℕ → GName → List Float → Fml
@@ -70,12 +70,12 @@ module _ {M : Type 1} (𝓤 : URA M) (H : Heap 𝓤) (A : Atoms 𝓤) (at-mem : 
     abbrev Handed : List (Item 𝓤)
     Handed = ‵ (ShrSlice (named 0) κ T.the-row .own x₀ (sliceVal (x₀ .ptr) (length (x₀ .now)) ∷ [])) ∷ ‵ (flft κ q) ∷ ‵ (Arr 1 ν₁ b₁ γ₁ xs) ∷ ‵ (flft (ν₁ ∷ []) fullShare) ∷ ‵ (Arr 2 ν₂ b₂ γ₂ ys) ∷ ‵ (flft (ν₂ ∷ []) fullShare) ∷ ‵ (Arr 3 ν₃ b₃ γ₃ rs) ∷ ‵ (flft (ν₃ ∷ []) fullShare) ∷ []
 
-    goes-split : Given 𝓤 H A → ent 𝓤 (⋆ 𝓤 H A Handed) (Split .pre to-split)
+    goes-split : Given 𝓤 H A → ent 𝓤 (⋆ 𝓤 H A Handed) (SplitContract .pre to-split)
     goes-split W = qed W Handed ∵ nothing ! $ move ! (7 ∷ 0 ∷ []) $ fjoin ! $ move ! (5 ∷ 0 ∷ []) $ fjoin ! $ move ! (3 ∷ 0 ∷ []) $ fjoin ! $ move ! (1 ∷ 0 ∷ []) $ fjoin ! $ nothing ! $ move ! (5 ∷ 0 ∷ []) $ join ! $ move ! (4 ∷ 0 ∷ []) $ join ! $ move ! (3 ∷ 0 ∷ []) $ join ! $ move ! (2 ∷ 0 ∷ []) $ join ! $ join ! $ frame ! $ done !
 
 module _ {M : Type 1} {𝓤 : URA M} {H : Heap 𝓤} {A : Atoms 𝓤} {K : Type 0} {W : Given 𝓤 H A} {Γ : List (Item 𝓤)} {C : Calls 𝓤 H} {Λ : Loops 𝓤 H} {E : Env 𝓤 H} {q₀ : Post 𝓤 H} {d : Place} {rest : Body} {os : List Operand} where
   -- of a run that is lent to be read; its lifetime's token comes back
-  pub splits-lent : K → FmC 𝓤 H (W .laws) C → (at-mem : Memory → SProp 𝓤) (run : Routine → Fun 𝓤) → Triple 𝓤 (C #split) (Split 𝓤 H A at-mem run)
+  pub splits-lent : K → FmC 𝓤 H (W .laws) C → (at-mem : Memory → SProp 𝓤) (run : Routine → Fun 𝓤) → Triple 𝓤 (C #split) (SplitContract 𝓤 H A at-mem run)
       → (κ : Lft) (q : Share) (x₀ : RefT (List Circle)) (xs ys rs : List Float) (b₁ b₂ b₃ : ℕ)
       → ((p i₁ i₂ i₃ : Item 𝓤) → Opds K W (p ∷ i₁ ∷ i₂ ∷ i₃ ∷ Γ) E os (sliceVal (x₀ .ptr) (length (x₀ .now)) ∷ vptr b₁ 0 ∷ vptr b₂ 0 ∷ vptr b₃ 0 ∷ []))
       → (countRefusal (length (x₀ .now)) < 2 ^ 8 → Seq K W (‵ (flft κ q) ∷ ‵ (partAt F64s fullShare (splitOf xsOf (x₀ .now) xs) b₁ 0) ∷ ‵ (partAt F64s fullShare (splitOf ysOf (x₀ .now) ys) b₂ 0) ∷ ‵ (partAt F64s fullShare (splitOf radiiOf (x₀ .now) rs) b₃ 0) ∷ Γ) (lands C Λ E d (vint w8 (countRefusal (length (x₀ .now)))) rest q₀))
@@ -84,9 +84,9 @@ module _ {M : Type 1} {𝓤 : URA M} {H : Heap 𝓤} {A : Atoms 𝓤} {K : Type 
       move t (2 ∷ []) $ lent-to-write t tt F64s (named 1) xs b₁ 0 (λ ν₁ γ₁.
       move t (5 ∷ []) $ lent-to-write t tt F64s (named 2) ys b₂ 0 (λ ν₂ γ₂.
       move t (8 ∷ []) $ lent-to-write t tt F64s (named 3) rs b₃ 0 (λ ν₃ γ₃.
-      move t (9 ∷ 10 ∷ 6 ∷ 7 ∷ 3 ∷ 4 ∷ 0 ∷ 1 ∷ []) $ group t 8 $ use1 W (raw (Split 𝓤 H A at-mem run .pre (to-split 𝓤 H A at-mem run κ q x₀ xs ys rs b₁ b₂ b₃ ν₁ ν₂ ν₃ γ₁ γ₂ γ₃))) (goes-split 𝓤 H A at-mem run κ q x₀ xs ys rs b₁ b₂ b₃ ν₁ ν₂ ν₃ γ₁ γ₂ γ₃ W) $
+      move t (9 ∷ 10 ∷ 6 ∷ 7 ∷ 3 ∷ 4 ∷ 0 ∷ 1 ∷ []) $ group t 8 $ use1 W (raw (SplitContract 𝓤 H A at-mem run .pre (to-split 𝓤 H A at-mem run κ q x₀ xs ys rs b₁ b₂ b₃ ν₁ ν₂ ν₃ γ₁ γ₂ γ₃))) (goes-split 𝓤 H A at-mem run κ q x₀ xs ys rs b₁ b₂ b₃ ν₁ ν₂ ν₃ γ₁ γ₂ γ₃ W) $
       -- [the pre; what is lent; Γ]
-      calls-at t fm (Split 𝓤 H A at-mem run) known (to-split 𝓤 H A at-mem run κ q x₀ xs ys rs b₁ b₂ b₃ ν₁ ν₂ ν₃ γ₁ γ₂ γ₃) (reads _ _ _ _) (λ v.
+      calls-at t fm (SplitContract 𝓤 H A at-mem run) known (to-split 𝓤 H A at-mem run κ q x₀ xs ys rs b₁ b₂ b₃ ν₁ ν₂ ν₃ γ₁ γ₂ γ₃) (reads _ _ _ _) (λ v.
       use1 W (later (some (λ (r : ℕ). (toks 𝓤 H A at-mem run κ q x₀ xs ys rs b₁ b₂ b₃ ν₁ ν₂ ν₃ γ₁ γ₂ γ₃ ⊛ ‵ (u8 .own r (v ∷ []))) ⊛ raw (ensured 𝓤 H A split′.ended (split′.clauses 𝓤 H A at-mem run) (lfts κ q x₀ xs ys rs b₁ b₂ b₃ ν₁ ν₂ ν₃ γ₁ γ₂ γ₃) (args κ q x₀ xs ys rs b₁ b₂ b₃ ν₁ ν₂ ν₃ γ₁ γ₂ γ₃) tt r)))) (id⊢ 𝓤 _) $ await t tt $ pick t (λ r.
       split t $ move t (1 ∷ []) $ use1 W (some (λ (ws : Lasts split′.ended (lfts κ q x₀ xs ys rs b₁ b₂ b₃ ν₁ ν₂ ν₃ γ₁ γ₂ γ₃) (args κ q x₀ xs ys rs b₁ b₂ b₃ ν₁ ν₂ ν₃ γ₁ γ₂ γ₃)). ‵ (lasts split′.ended (lfts κ q x₀ xs ys rs b₁ b₂ b₃ ν₁ ν₂ ν₃ γ₁ γ₂ γ₃) (args κ q x₀ xs ys rs b₁ b₂ b₃ ν₁ ν₂ ν₃ γ₁ γ₂ γ₃) ws) ⊛ raw (fact 𝓤 (Said (x₀ .now) xs ys rs r (ws .1 .0) (ws .1 .1 .0) (ws .1 .1 .1 .0))))) (id⊢ 𝓤 _) $ pick t (λ ws.
       split t $ move t (1 ∷ []) $ heard t (Said (x₀ .now) xs ys rs r (ws .1 .0) (ws .1 .1 .0) (ws .1 .1 .1 .0)) (λ e.
@@ -101,7 +101,7 @@ module _ {M : Type 1} {𝓤 : URA M} {H : Heap 𝓤} {A : Atoms 𝓤} {K : Type 
 
 module _ {M : Type 1} {𝓤 : URA M} {H : Heap 𝓤} {A : Atoms 𝓤} {K : Type 0} {W : Given 𝓤 H A} {Γ : List (Item 𝓤)} {C : Calls 𝓤 H} {Λ : Loops 𝓤 H} {E : Env 𝓤 H} {q₀ : Post 𝓤 H} {d : Place} {rest : Body} {os : List Operand} where
   -- of a run that is open
-  pub splits : K → FmC 𝓤 H (W .laws) C → (at-mem : Memory → SProp 𝓤) (run : Routine → Fun 𝓤) → Triple 𝓤 (C #split) (Split 𝓤 H A at-mem run)
+  pub splits : K → FmC 𝓤 H (W .laws) C → (at-mem : Memory → SProp 𝓤) (run : Routine → Fun 𝓤) → Triple 𝓤 (C #split) (SplitContract 𝓤 H A at-mem run)
       → (cs : List Circle) (xs ys rs : List Float) (b₀ o₀ b₁ b₂ b₃ : ℕ) → Room T.the-row (length cs)
       → ((p i₁ i₂ i₃ i₀ : Item 𝓤) → Opds K W (p ∷ i₁ ∷ i₂ ∷ i₃ ∷ i₀ ∷ Γ) E os (sliceVal (b₀, o₀) (length cs) ∷ vptr b₁ 0 ∷ vptr b₂ 0 ∷ vptr b₃ 0 ∷ []))
       → (countRefusal (length cs) < 2 ^ 8 → Seq K W (‵ (row T.the-row fullShare cs b₀ o₀) ∷ ‵ (partAt F64s fullShare (splitOf xsOf cs xs) b₁ 0) ∷ ‵ (partAt F64s fullShare (splitOf ysOf cs ys) b₂ 0) ∷ ‵ (partAt F64s fullShare (splitOf radiiOf cs rs) b₃ 0) ∷ Γ) (lands C Λ E d (vint w8 (countRefusal (length cs))) rest q₀))

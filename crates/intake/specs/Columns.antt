@@ -7,15 +7,11 @@ use lib.ListN.{getD, length, drop}
 use lib.Ieee.{Float, nan}
 use Rattle.shapes.specs.declared.circle.Circle.{Circle}
 use Rattle.shapes.specs.declared.rectangle.Rectangle.{Rectangle}
-use Rattle.shapes.specs.Records.{pointAt}
+use Rattle.shapes.specs.Records.{circleOf}
 use Rattle.shapes.specs.Lift.{lift}
 use Rattle.scope.specs.Runs.{tab}
 use Rattle.scope.specs.Links.{circle}
 use Rattle.scope.specs.Packing.{rectangle}
-
--- the circle of three numbers, its radius as it is
-abbrev pub circleOf : Float → Float → Float → Circle
-circleOf x y r = record { center = pointAt x y; radius = r }
 
 -- the number at a place of a list; past the end, a NaN
 abbrev pub at : List Float → ℕ → Float

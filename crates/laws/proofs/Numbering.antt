@@ -31,13 +31,13 @@ pub record Numbering (n : ℕ) (g : Clusters) : Type 0 where
   pub rising : (u v a b : ℕ) → Smallest n (numberIn g) u a → Smallest n (numberIn g) v b → u < v → a < b
 
 -- the same circles go together
-abbrev pub Alike : ℕ → Clusters → Clusters → Type 0
-Alike n g h = (i j : ℕ) → i < n → j < n → (numberIn g i ≡ numberIn g j) ↔ (numberIn h i ≡ numberIn h j)
+abbrev pub SameClusters : ℕ → Clusters → Clusters → Type 0
+SameClusters n g h = (i j : ℕ) → i < n → j < n → (numberIn g i ≡ numberIn g j) ↔ (numberIn h i ≡ numberIn h j)
 
-alike-turned : (n : ℕ) (g h : Clusters) → Alike n g h → Alike n h g
+alike-turned : (n : ℕ) (g h : Clusters) → SameClusters n g h → SameClusters n h g
 alike-turned n g h e i j hi hj = Iff·symm (e i j hi hj)
 
-module _ (n : ℕ) (g h : Clusters) (p : Numbering n g) (q : Numbering n h) (alike : Alike n g h) where
+module _ (n : ℕ) (g h : Clusters) (p : Numbering n g) (q : Numbering n h) (alike : SameClusters n g h) where
   -- a smaller number in g than in h would be that of an earlier circle, whose numbers are equal
   not-smaller : (i : ℕ) → i < n → ((b : ℕ) → b < i → numberIn g b ≡ numberIn h b) → ¬ (numberIn g i < numberIn h i)
   not-smaller i hi earlier l =
@@ -52,7 +52,7 @@ module _ (n : ℕ) (g h : Clusters) (p : Numbering n g) (q : Numbering n h) (ali
       let e = q .used (g .count) l in
       omega (arith, p .inside (e .0) (e .1 .below), equal (e .0) (e .1 .below), e .1 .has)
 
-module _ (n : ℕ) (g h : Clusters) (p : Numbering n g) (q : Numbering n h) (alike : Alike n g h) where
+module _ (n : ℕ) (g h : Clusters) (p : Numbering n g) (q : Numbering n h) (alike : SameClusters n g h) where
   equal-below : (m i : ℕ) → i < m → i < n → numberIn g i ≡ numberIn h i
   equal-below zero i hm hi = absurd (omega arith)
   equal-below (suc m) i hm hi =

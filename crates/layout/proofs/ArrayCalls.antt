@@ -19,7 +19,8 @@ use Rattle.scope.specs.Promises.{Promises}
 use Rattle.promises.specs.Demand3.{bound}
 use Rattle.laws.proofs.Runs.{tab-equal}
 use Rattle.intake.specs.Limits.{maxCircles}
-use Rattle.intake.specs.Columns.{circleOf, at, xsOf, ysOf, radiiOf, overwritten}
+use Rattle.shapes.specs.Records.{circleOf}
+use Rattle.intake.specs.Columns.{at, xsOf, ysOf, radiiOf, overwritten}
 use Rattle.intake.proofs.Checking.{few}
 use Rattle.layout.specs.Answers.{resultOf, placedOf}
 use Rattle.layout.specs.Contained.{frontContained, SettledAt, Settles}

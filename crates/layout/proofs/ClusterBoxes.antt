@@ -27,7 +27,7 @@ use Rattle.intake.specs.Columns.{at, circlesOf, each, Lifted, widthsOf, heights
 use Rattle.intake.proofs.Columns.{length-shown, shown-at, shown-equal}
 use Rattle.layout.specs.Ranges.{rangeOf, middleOf}
 use Rattle.packing.specs.Sides.{centreXs, centreYs}
-use Rattle.layout.specs.ClusterBoxes.{Numbered, lowsOf, highsOf, middlesOf, lengthsOf, paddingFor, shiftedBy}
+use Rattle.layout.specs.ClusterBoxes.{InClusters, lowsOf, highsOf, middlesOf, lengthsOf, paddingFor, shiftedBy}
 use Rattle.layout.proofs.Ranges.{circles-box}
 
 -- ---- one circle more in the ranges of all clusters: its cluster's end is changed, and no other
@@ -127,7 +127,7 @@ module _ (count : ℕ) (numbers : List ℕ) (xs ys rs : List Float) (even : leng
 -- ---- the shift
 
 -- each circle of the lists is moved as the centre of its cluster's box is
-pub shift-shown : (numbers : List ℕ) (old new : List Rectangle) (xs ys rs : List Float) → length ys ≡ length xs → length numbers ≡ length xs → length new ≡ length old → Numbered (length old) numbers → Lifted rs
+pub shift-shown : (numbers : List ℕ) (old new : List Rectangle) (xs ys rs : List Float) → length ys ≡ length xs → length numbers ≡ length xs → length new ≡ length old → InClusters (length old) numbers → Lifted rs
     → circlesOf (shiftedBy numbers (centreXs old) (centreXs new) xs) (shiftedBy numbers (centreYs old) (centreYs new) ys) rs ≡ shifted numbers old new (circlesOf xs ys rs)
 unfolding shifted shift translated
 shift-shown numbers old new xs ys rs even all same numbered lifted =

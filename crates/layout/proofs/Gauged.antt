@@ -9,13 +9,13 @@ use lib.Seq.{ext-getD}
 use lib.Ieee.{Float, nan}
 use borrow.Author.Tests.{lt-ltb, le-ltb}
 use Rattle.shapes.specs.declared.circle.Circle.{Circle}
-use Rattle.shapes.specs.Records.{pointAt}
+use Rattle.shapes.specs.Records.{pointAt, circleOf}
 use Rattle.scope.specs.Numbers.{_-ᶠ_, _*ᶠ_, _<ᶠ_, two}
 use Rattle.scope.specs.Runs.{least}
 use Rattle.scope.specs.Gauge.{level, turn, changed, rotated, turned, mirrorX, mirrorY, mirroredX, mirroredY, rotateCluster}
 use Rattle.scope.specs.Links.{circle}
 use Rattle.scope.specs.Gauge as gauge
-use Rattle.intake.specs.Columns.{circleOf, at, circlesOf, members, Lifted}
+use Rattle.intake.specs.Columns.{at, circlesOf, members, Lifted}
 use Rattle.intake.proofs.Columns.{length-shown, shown-at, shown-equal, length-members, members-at}
 use Rattle.intake.proofs.InPlace.{either-length}
 use Rattle.layout.specs.Ranges.{rangeOver, middleOf}

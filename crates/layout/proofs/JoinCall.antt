@@ -54,17 +54,17 @@ module _ (cs : List Circle) (xs ys : List Float) (count : ℕ) (b₀ o₀ b₁ b
   args = (refTo b₀ o₀ γ₀ cs, (refTo b₁ 0 γ₁ xs, (refTo b₂ 0 γ₂ ys, (count, tt))))
 
 module _ {M : Type 1} (𝓤 : URA M) (H : Heap 𝓤) (A : Atoms 𝓤) (at-mem : Memory → SProp 𝓤) (run : Routine → Fun 𝓤) where
-  abbrev pub Join : Contract 𝓤
-  Join = tripleOf 𝓤 H A join′.signature (join′.spec 𝓤 H A at-mem run)
+  abbrev pub JoinContract : Contract 𝓤
+  JoinContract = tripleOf 𝓤 H A join′.signature (join′.spec 𝓤 H A at-mem run)
 
-  abbrev pub Written : Contract 𝓤
-  Written = tripleOf 𝓤 H A written′.signature (written′.spec 𝓤 H A at-mem run)
+  abbrev pub WrittenContract : Contract 𝓤
+  WrittenContract = tripleOf 𝓤 H A written′.signature (written′.spec 𝓤 H A at-mem run)
 
   module _ (cs : List Circle) (xs ys : List Float) (count : ℕ) (b₀ o₀ b₁ b₂ : ℕ) (ν₀ ν₁ ν₂ : ℕ) (γ₀ γ₁ γ₂ : GName) where
     abbrev toks : Item 𝓤
     toks = ‵ (flft (ν₀ ∷ []) fullShare) ⊛ ‵ (flft (ν₁ ∷ []) fullShare) ⊛ ‵ (flft (ν₂ ∷ []) fullShare) ⊛ ‵ ftrue
 
-    abbrev to-join : Join .Ghost
+    abbrev to-join : JoinContract .Ghost
     to-join = ((lfts cs xs ys count b₀ o₀ b₁ b₂ ν₀ ν₁ ν₂ γ₀ γ₁ γ₂, (fullShare, (fullShare, (fullShare, tt))), tt, args cs xs ys count b₀ o₀ b₁ b₂ ν₀ ν₁ ν₂ γ₀ γ₁ γ₂, (sliceVal (b₀, o₀) (length cs) ∷ [], (vptr b₁ 0 ∷ [], (vptr b₂ 0 ∷ [], (vint w64 count ∷ [], tt))))), tt)
 
     abbrev Run : Fml
@@ -76,21 +76,21 @@ module _ {M : Type 1} (𝓤 : URA M) (H : Heap 𝓤) (A : Atoms 𝓤) (at-mem : 
     abbrev Handed : List (Item 𝓤)
     Handed = ‵ Run ∷ ‵ (flft (ν₀ ∷ []) fullShare) ∷ ‵ (Arr 1 ν₁ b₁ γ₁ xs) ∷ ‵ (flft (ν₁ ∷ []) fullShare) ∷ ‵ (Arr 2 ν₂ b₂ γ₂ ys) ∷ ‵ (flft (ν₂ ∷ []) fullShare) ∷ []
 
-    goes-join : Given 𝓤 H A → count < 2 ^ 64 → (count ≤ length cs) × (count ≤ maxCircles) → ent 𝓤 (⋆ 𝓤 H A Handed) (Join .pre to-join)
+    goes-join : Given 𝓤 H A → count < 2 ^ 64 → (count ≤ length cs) × (count ≤ maxCircles) → ent 𝓤 (⋆ 𝓤 H A Handed) (JoinContract .pre to-join)
     goes-join W gc fits =
         qed W Handed ∵ says ! fits $ nothing ! $ owned ! usize (Is usize) (uint-makes 𝓤 H A W w64) count _ (refl, gc) $ fjoin ! $ move ! (5 ∷ 0 ∷ []) $ fjoin ! $ move ! (3 ∷ 0 ∷ []) $ fjoin ! $ move ! (1 ∷ 0 ∷ []) $ fjoin ! $ nothing ! $ move ! (4 ∷ 0 ∷ []) $ join ! $ move ! (3 ∷ 0 ∷ []) $ join ! $ move ! (2 ∷ 0 ∷ []) $ join ! $ join ! $ done !
 
   module _ (refusal n : ℕ) where
-    abbrev to-written : Written .Ghost
+    abbrev to-written : WrittenContract .Ghost
     to-written = ((tt, tt, tt, (refusal, (n, tt)), (vint w8 refusal ∷ [], (vint w64 n ∷ [], tt))), tt)
 
-    goes-written : Given 𝓤 H A → refusal < 2 ^ 8 → n < 2 ^ 64 → ent 𝓤 (emp 𝓤) (Written .pre to-written)
+    goes-written : Given 𝓤 H A → refusal < 2 ^ 8 → n < 2 ^ 64 → ent 𝓤 (emp 𝓤) (WrittenContract .pre to-written)
     goes-written W gr gn =
         qed W [] ∵ nothing ! $ nothing ! $ owned ! usize (Is usize) (uint-makes 𝓤 H A W w64) n _ (refl, gn) $ fjoin ! $ owned ! u8 (Is u8) (uint-makes 𝓤 H A W w8) refusal _ (refl, gr) $ fjoin ! $
         nothing ! $ join ! $ frame ! $ done !
 
 module _ {M : Type 1} {𝓤 : URA M} {H : Heap 𝓤} {A : Atoms 𝓤} {K : Type 0} {W : Given 𝓤 H A} {Γ : List (Item 𝓤)} {C : Calls 𝓤 H} {Λ : Loops 𝓤 H} {E : Env 𝓤 H} {q : Post 𝓤 H} {d : Place} {rest : Body} {os : List Operand} where
-  pub joins : K → FmC 𝓤 H (W .laws) C → (at-mem : Memory → SProp 𝓤) (run : Routine → Fun 𝓤) → Triple 𝓤 (C #join) (Join 𝓤 H A at-mem run)
+  pub joins : K → FmC 𝓤 H (W .laws) C → (at-mem : Memory → SProp 𝓤) (run : Routine → Fun 𝓤) → Triple 𝓤 (C #join) (JoinContract 𝓤 H A at-mem run)
       → (cs : List Circle) (xs ys : List Float) (count : ℕ) (b₀ o₀ b₁ b₂ : ℕ) → Room T.the-row (length cs) → count < 2 ^ 64 → (count ≤ length cs) × (count ≤ maxCircles)
       → ((p i₀ i₁ i₂ : Item 𝓤) → Opds K W (p ∷ i₀ ∷ i₁ ∷ i₂ ∷ Γ) E os (sliceVal (b₀, o₀) (length cs) ∷ vptr b₁ 0 ∷ vptr b₂ 0 ∷ vint w64 count ∷ []))
       → ((zs : List Circle) → length zs ≡ length cs → zs ≡ recentred count xs ys cs
@@ -100,9 +100,9 @@ module _ {M : Type 1} {𝓤 : URA M} {H : Heap 𝓤} {A : Atoms 𝓤} {K : Type 
       run-to-write t tt T.the-row (named 0) cs b₀ o₀ g (λ ν₀ γ₀.
       move t (3 ∷ []) $ lent-to-read t tt F64s (named 1) xs b₁ 0 (λ ν₁ γ₁.
       move t (6 ∷ []) $ lent-to-read t tt F64s (named 2) ys b₂ 0 (λ ν₂ γ₂.
-      move t (6 ∷ 7 ∷ 3 ∷ 4 ∷ 0 ∷ 1 ∷ []) $ group t 6 $ use1 W (raw (Join 𝓤 H A at-mem run .pre (to-join 𝓤 H A at-mem run cs xs ys count b₀ o₀ b₁ b₂ ν₀ ν₁ ν₂ γ₀ γ₁ γ₂))) (goes-join 𝓤 H A at-mem run cs xs ys count b₀ o₀ b₁ b₂ ν₀ ν₁ ν₂ γ₀ γ₁ γ₂ W gc fits) $
+      move t (6 ∷ 7 ∷ 3 ∷ 4 ∷ 0 ∷ 1 ∷ []) $ group t 6 $ use1 W (raw (JoinContract 𝓤 H A at-mem run .pre (to-join 𝓤 H A at-mem run cs xs ys count b₀ o₀ b₁ b₂ ν₀ ν₁ ν₂ γ₀ γ₁ γ₂))) (goes-join 𝓤 H A at-mem run cs xs ys count b₀ o₀ b₁ b₂ ν₀ ν₁ ν₂ γ₀ γ₁ γ₂ W gc fits) $
       -- [the pre; what is lent; Γ]
-      calls-at t fm (Join 𝓤 H A at-mem run) known (to-join 𝓤 H A at-mem run cs xs ys count b₀ o₀ b₁ b₂ ν₀ ν₁ ν₂ γ₀ γ₁ γ₂) (reads _ _ _ _) (λ v.
+      calls-at t fm (JoinContract 𝓤 H A at-mem run) known (to-join 𝓤 H A at-mem run cs xs ys count b₀ o₀ b₁ b₂ ν₀ ν₁ ν₂ γ₀ γ₁ γ₂) (reads _ _ _ _) (λ v.
       use1 W (later (some (λ (r : Unit {0}). (toks 𝓤 H A at-mem run cs xs ys count b₀ o₀ b₁ b₂ ν₀ ν₁ ν₂ γ₀ γ₁ γ₂ ⊛ ‵ (Nothing .own r (v ∷ []))) ⊛ raw (ensured 𝓤 H A join′.ended (join′.clauses 𝓤 H A at-mem run) (lfts cs xs ys count b₀ o₀ b₁ b₂ ν₀ ν₁ ν₂ γ₀ γ₁ γ₂) (args cs xs ys count b₀ o₀ b₁ b₂ ν₀ ν₁ ν₂ γ₀ γ₁ γ₂) tt r)))) (id⊢ 𝓤 _) $ await t tt $ pick t (λ r.
       split t $ move t (1 ∷ []) $ use1 W (some (λ (ws : Lasts join′.ended (lfts cs xs ys count b₀ o₀ b₁ b₂ ν₀ ν₁ ν₂ γ₀ γ₁ γ₂) (args cs xs ys count b₀ o₀ b₁ b₂ ν₀ ν₁ ν₂ γ₀ γ₁ γ₂)). ‵ (lasts join′.ended (lfts cs xs ys count b₀ o₀ b₁ b₂ ν₀ ν₁ ν₂ γ₀ γ₁ γ₂) (args cs xs ys count b₀ o₀ b₁ b₂ ν₀ ν₁ ν₂ γ₀ γ₁ γ₂) ws) ⊛ raw (fact 𝓤 (ws .0 ≡ recentred count xs ys cs)))) (id⊢ 𝓤 _) $ pick t (λ ws. split t $ move t (1 ∷ []) $ heard t (ws .0 ≡ recentred count xs ys cs) (λ e.
       fsplit t $ fsplit t $ move t (2 ∷ []) $ drop t $ move t (1 ∷ []) $ feqL t (λ l.
@@ -112,12 +112,12 @@ module _ {M : Type 1} {𝓤 : URA M} {H : Heap 𝓤} {A : Atoms 𝓤} {K : Type 
       move t (0 ∷ 4 ∷ []) $ read-back t tt F64s ys b₂ 0 $ move t (1 ∷ 4 ∷ []) $ read-back t tt F64s xs b₁ 0 $ move t (2 ∷ 4 ∷ 3 ∷ []) $ run-written-back t tt T.the-row (length cs) (ws .0) b₀ o₀ $ regoal t (λ (u : Val). lands C Λ E d u rest q) (ap only (nothing-tells r _ is)) refl $ k (ws .0) l e)))))))))
 
   -- ---- `written`
-  pub counts : K → FmC 𝓤 H (W .laws) C → (at-mem : Memory → SProp 𝓤) (run : Routine → Fun 𝓤) → Triple 𝓤 (C #written) (Written 𝓤 H A at-mem run)
+  pub counts : K → FmC 𝓤 H (W .laws) C → (at-mem : Memory → SProp 𝓤) (run : Routine → Fun 𝓤) → Triple 𝓤 (C #written) (WrittenContract 𝓤 H A at-mem run)
       → (refusal n : ℕ) → refusal < 2 ^ 8 → n < 2 ^ 64 → ((p : Item 𝓤) → Opds K W (p ∷ Γ) E os (vint w8 refusal ∷ vint w64 n ∷ []))
       → (writtenOf refusal n < 2 ^ 64 → Seq K W Γ (lands C Λ E d (vint w64 (writtenOf refusal n)) rest q)) → Seq K W Γ (runs C Λ E (seq (call #written os d) rest) q)
   counts t fm at-mem run known refusal n gr gn reads k =
-      use0 W (raw (Written 𝓤 H A at-mem run .pre (to-written 𝓤 H A at-mem run refusal n))) (goes-written 𝓤 H A at-mem run refusal n W gr gn) $
-      calls-at t fm (Written 𝓤 H A at-mem run) known (to-written 𝓤 H A at-mem run refusal n) (reads _) (λ v.
+      use0 W (raw (WrittenContract 𝓤 H A at-mem run .pre (to-written 𝓤 H A at-mem run refusal n))) (goes-written 𝓤 H A at-mem run refusal n W gr gn) $
+      calls-at t fm (WrittenContract 𝓤 H A at-mem run) known (to-written 𝓤 H A at-mem run refusal n) (reads _) (λ v.
       use1 W (later (some (λ (r : ℕ). (‵ ftrue ⊛ ‵ (usize .own r (v ∷ []))) ⊛ raw (ensured 𝓤 H A written′.ended (written′.clauses 𝓤 H A at-mem run) tt (refusal, (n, tt)) tt r)))) (id⊢ 𝓤 _) $ await t tt $ pick t (λ r.
       split t $ move t (1 ∷ []) $ use1 W (some (λ (ws : Lasts written′.ended tt (refusal, (n, tt))). ‵ (lasts written′.ended tt (refusal, (n, tt)) ws) ⊛ raw (fact 𝓤 (r ≡ writtenOf refusal n)))) (id⊢ 𝓤 _) $ pick t (λ ws.
       split t $ drop t $ heard t (r ≡ writtenOf refusal n) (λ e. split t $ drop t $ facts t usize (Is usize) (shows 𝓤 H A usize) r (v ∷ []) (λ is.

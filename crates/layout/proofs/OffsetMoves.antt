@@ -19,13 +19,13 @@ use Rattle.scope.specs.Numbers.{_*ᶠ_, _≤ᶠ_, nought, half}
 use Rattle.scope.specs.Runs.{inTurn}
 use Rattle.scope.specs.Distance.{contains}
 use Rattle.scope.specs.Links.{Region, circle, nowhere, overlap}
-use Rattle.scope.specs.Offset.{parentOf, parents, onlyChild, translated, move, childAt, maxContainedOffset, direction, blocked, there, repositioned, Moved as Step, replaced, tried, offset}
+use Rattle.scope.specs.Offset.{parentOf, parents, onlyChild, translated, move, childAt, maxContainedOffset, direction, blocked, there, repositioned, Moved, replaced, tried, offset}
 use Rattle.intake.specs.Columns.{at, circlesOf, Lifted}
 use Rattle.intake.proofs.Columns.{length-shown, shown-at}
 use Rattle.laws.proofs.Cases.{is-true, is-false}
 use Rattle.laws.proofs.Runs.{NoneBelow, someBelow-iff, passes-below, getD-tab}
-use Rattle.layout.specs.declared.offset.Moved.{Moved}
-use Rattle.layout.specs.declared.offset.Moved.the-variants as child
+use Rattle.layout.specs.declared.offset.Repositioned.{Repositioned}
+use Rattle.layout.specs.declared.offset.Repositioned.the-variants as child
 use Rattle.layout.specs.Offsets.{moved, parentAt, ParentsOf, moment}
 
 pub not-held : (b : Bool) → b ≡ false → ¬ T b
@@ -86,10 +86,10 @@ module _ (xs ys rs : List Float) (i : ℕ) (c : Circle) (long : length ys ≡ le
           ]
 
 -- what was worked out of a child, as the code has it
-pub moved-known : (m : Moved) (c : Circle) (o : Option Circle) → child.To c ≡ m → moved m ≡ o → some c ≡ o
+pub moved-known : (m : Repositioned) (c : Circle) (o : Option Circle) → child.To c ≡ m → moved m ≡ o → some c ≡ o
 moved-known m c o e h = rw (← e) at h
 
-pub stays-known : (m : Moved) (o : Option Circle) → child.Stays ≡ m → moved m ≡ o → none ≡ o
+pub stays-known : (m : Repositioned) (o : Option Circle) → child.Stays ≡ m → moved m ≡ o → none ≡ o
 stays-known m o e h = rw (← e) at h
 
 -- the radius of a moved child is what it was
@@ -100,7 +100,7 @@ child-moved xs ys rs p i c long h lifted e =
 
 -- ---- one circle tried
 
-module _ (ps : List (Option ℕ)) (s : Step) (i : ℕ) where
+module _ (ps : List (Option ℕ)) (s : Moved) (i : ℕ) where
   pub tried-none : s ≡ tried ps s i none
   unfolding tried
   tried-none = refl
@@ -118,15 +118,15 @@ module _ (ps : List (Option ℕ)) (s : Step) (i : ℕ) where
   tried-moved p c h e = rw (h, ← e)
 
 -- the circles after the first i have been tried
-abbrev pub triedFirst : ℕ → List Region → ℕ → Step → Step
+abbrev pub triedFirst : ℕ → List Region → ℕ → Moved → Moved
 triedFirst n rs i z = inTurn i (λ k u. tried (parents n rs) u k (getD (parents n rs) k none)) z
 
 module _ (n : ℕ) (rs : List Region) (ps : List ℕ) (shows : ParentsOf n rs ps) where
-  pub tried-next : (z s t : Step) (i : ℕ) → i < n → s ≡ triedFirst n rs i z → t ≡ tried (parents n rs) s i (parentAt n ps i) → t ≡ triedFirst n rs (i + 1) z
+  pub tried-next : (z s t : Moved) (i : ℕ) → i < n → s ≡ triedFirst n rs i z → t ≡ tried (parents n rs) s i (parentAt n ps i) → t ≡ triedFirst n rs (i + 1) z
   unfolding inTurn parents
   tried-next z s t i h e d = rw (add-one i, getD-tab n (parentOf n rs) i none h, ← e, ← shows i h) d
 
-  none-tried : ((i : ℕ) → i < n → parentAt n ps i ≡ none) → (z : Step) (i : ℕ) → i ≤ n → z ≡ triedFirst n rs i z
+  none-tried : ((i : ℕ) → i < n → parentAt n ps i ≡ none) → (z : Moved) (i : ℕ) → i ≤ n → z ≡ triedFirst n rs i z
   unfolding inTurn
   none-tried f z zero h = refl
   none-tried f z (suc i) h =

@@ -24,7 +24,7 @@ use Rattle.intake.proofs.Columns.{length-widths, length-heights, width-at, heig
 use Rattle.packing.specs.Sides.{sided, sidesNumber, centreXs, centreYs, Sides}
 use Rattle.packing.proofs.Packings.{length-packed}
 use Rattle.packing.proofs.PackedBoxes.{same-boxes, sides-accepted}
-use Rattle.layout.specs.ClusterBoxes.{Numbered, BoxLists, shiftedBy}
+use Rattle.layout.specs.ClusterBoxes.{InClusters, BoxLists, shiftedBy}
 use Rattle.layout.proofs.ClusterBoxes.{shift-shown, few-stay, many-move}
 
 -- ---- a part of a list
@@ -68,13 +68,13 @@ few-clusters-stay count numbers cs factor h =
 at-front : (k : ℕ) (l m : List Float) → take k l ≡ m → (a : ℕ) → a < k → at l a ≡ at m a
 at-front k l m e a h = sym (getD-take k l a nan h) ∙ ap (λ (z : List Float). at z a) e
 
-shifted-same : (count : ℕ) (numbers : List ℕ) (coords olds news olds′ news′ : List Float) → length numbers ≡ length coords → Numbered count numbers
+shifted-same : (count : ℕ) (numbers : List ℕ) (coords olds news olds′ news′ : List Float) → length numbers ≡ length coords → InClusters count numbers
     → ((a : ℕ) → a < count → at olds a ≡ at olds′ a) → ((a : ℕ) → a < count → at news a ≡ at news′ a) → shiftedBy numbers olds news coords ≡ shiftedBy numbers olds′ news′ coords
 shifted-same count numbers coords olds news olds′ news′ even numbered o n =
     tab-equal (length coords) _ _ (λ i h. let below = numbered i (rw even h) in rw (o (getD numbers i 0) below, n (getD numbers i 0) below))
 
 module _ (count : ℕ) (numbers : List ℕ) (factor : Float) (xs ys rs : List Float) (even : length ys ≡ length xs) (all : length numbers ≡ length xs) (lifted : Lifted rs)
-    (few : count ≤ maxCircles) (numbered : Numbered count numbers) (many : 2 ≤ count) where
+    (few : count ≤ maxCircles) (numbered : InClusters count numbers) (many : 2 ≤ count) where
   abbrev cs : List Circle
   cs = circlesOf xs ys rs
 

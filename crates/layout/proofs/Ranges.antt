@@ -8,14 +8,14 @@ use lib.ListN.{length}
 use lib.Ieee.{Float}
 use Rattle.shapes.specs.declared.bounds.Bounds.{Bounds}
 use Rattle.shapes.specs.declared.circle.Circle.{Circle}
-use Rattle.shapes.specs.Records.{boxOf}
+use Rattle.shapes.specs.Records.{boxOf, circleOf}
 use Rattle.shapes.specs.Boxes.{circleBox, unionOf}
 use Rattle.scope.specs.Runs.{gather}
 use Rattle.scope.specs.Links.{circle}
 use Rattle.scope.specs.Gauge.{nothing, pointBox, centresBox}
 use Rattle.scope.specs.Padding.{boxAll}
 use Rattle.laws.proofs.Runs.{gather-equal}
-use Rattle.intake.specs.Columns.{circleOf, at, circlesOf}
+use Rattle.intake.specs.Columns.{at, circlesOf}
 use Rattle.intake.proofs.Columns.{length-shown, shown-at}
 use Rattle.layout.specs.Ranges.{noRange, widened, rangeOver, rangeOf}
 use Rattle.layout.specs.declared.axis.Range.{Range}

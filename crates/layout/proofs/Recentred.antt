@@ -10,7 +10,8 @@ use Rattle.shapes.specs.declared.circle.Circle.{Circle}
 use Rattle.scope.specs.Runs.{tab}
 use Rattle.scope.specs.Links.{circle, nowhere}
 use Rattle.laws.proofs.Runs.{length-tab, tab-equal}
-use Rattle.intake.specs.Columns.{circleOf, at, circlesOf, radiiOf}
+use Rattle.shapes.specs.Records.{circleOf}
+use Rattle.intake.specs.Columns.{at, circlesOf, radiiOf}
 use Rattle.intake.proofs.Columns.{shown-equal, radius-at}
 use Rattle.intake.proofs.InPlace.{over-length, rewritten, so-far, none-rewritten, one-rewritten, all-rewritten}
 use Rattle.layout.specs.Recentred.{recentred, writtenOf}

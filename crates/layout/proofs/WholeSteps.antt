@@ -33,8 +33,8 @@ use Rattle.promises.proofs.whole.PackingAccepts.{layout-packs}
 use Rattle.intake.specs.Columns.{at, circlesOf, Lifted}
 use Rattle.intake.specs.Limits.{maxCircles}
 use Rattle.intake.proofs.Columns.{length-shown, shown-at}
-use Rattle.layout.specs.ClusterBoxes.{Numbered}
-use Rattle.layout.specs.Laid.{Packable, settledClusters}
+use Rattle.layout.specs.ClusterBoxes.{InClusters}
+use Rattle.layout.specs.Laid.{WithinPacking, settledClusters}
 
 past-end : (l : List Float) (i : ℕ) → length l ≤ i → at l i ≡ nan
 past-end [] i h = refl
@@ -92,7 +92,7 @@ module _ (xs ys rs : List Float) (factor : Float) (masks : List ℕ) (areas : Li
     pub few-clusters : a .count ≤ maxCircles
     few-clusters = rw count-is (le-trans (clusters-numbering (length xs) regs (tolerance regs) .few) few)
 
-    pub numbers-inside : Numbered (a .count) (take (length xs - 0) (a .numbers))
+    pub numbers-inside : InClusters (a .count) (take (length xs - 0) (a .numbers))
     numbers-inside =
         let n = clusters-numbering (length xs) regs (tolerance regs) in
         rw (count-is, front-numbers) (λ i l. n .inside i (rw (n .sized) at l))
@@ -102,7 +102,7 @@ module _ (xs ys rs : List Float) (factor : Float) (masks : List ℕ) (areas : Li
 
     -- ---- the parted circles, and what is made of them
     module _ (doubles : AreDoubles (circlesOf xs ys rs) factor) (cs₁ : List Circle) (parted : cs₁ ≡ offset (circlesOf xs ys rs) regs .circles) where
-      pub clusters-packable : Packable (a .count) (take (length xs - 0) (a .numbers)) (gauged (a .count) (take (length xs - 0) (a .numbers)) cs₁) factor
+      pub clusters-packable : WithinPacking (a .count) (take (length xs - 0) (a .numbers)) (gauged (a .count) (take (length xs - 0) (a .numbers)) cs₁) factor
       clusters-packable = rw (count-is, front-numbers, parted, ← length-shown xs ys rs) (layout-packs (circlesOf xs ys rs) factor masks areas doubles h)
 
       pub whole-result : (moved : ℕ) (pad : Float) → moved ≡ offset (circlesOf xs ys rs) regs .mask

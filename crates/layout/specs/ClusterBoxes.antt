@@ -16,8 +16,8 @@ use Rattle.packing.specs.Sides.{centreXs, centreYs}
 use Rattle.layout.specs.Ranges.{rangeOf}
 
 -- every circle's cluster is one of count
-abbrev pub Numbered : ℕ → List ℕ → Type 0
-Numbered count numbers = (i : ℕ) → i < length numbers → getD numbers i 0 < count
+abbrev pub InClusters : ℕ → List ℕ → Type 0
+InClusters count numbers = (i : ℕ) → i < length numbers → getD numbers i 0 < count
 
 -- the ends of the clusters' ranges
 abbrev pub lowsOf : ℕ → List ℕ → List Float → List Float → List Float

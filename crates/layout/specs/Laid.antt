@@ -19,8 +19,8 @@ use Rattle.layout.specs.Answers.{resultOf}
 use Rattle.layout.specs.declared.normalize.Result.{Result}
 
 -- the boxes and the padding of these clusters are within the packing's ranges
-abbrev pub Packable : ℕ → List ℕ → List Circle → Float → Type 0
-Packable count numbers cs factor = packRefusal (boxes count numbers cs) (padding (boxes count numbers cs) factor) ≡ 0
+abbrev pub WithinPacking : ℕ → List ℕ → List Circle → Float → Type 0
+WithinPacking count numbers cs factor = packRefusal (boxes count numbers cs) (padding (boxes count numbers cs) factor) ≡ 0
 
 -- the clusters packed, and then the whole centred
 abbrev pub packedClusters : ℕ → List ℕ → Float → List Circle → List Circle

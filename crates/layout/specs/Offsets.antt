@@ -8,15 +8,15 @@ use lib.Dec.{ltb}
 use lib.ListN.{getD}
 use Rattle.shapes.specs.declared.circle.Circle.{Circle}
 use Rattle.scope.specs.Links.{Region}
-use Rattle.scope.specs.Offset.{parentOf, Moved as Step}
-use Rattle.layout.specs.declared.offset.Moved.{Moved}
-use Rattle.layout.specs.declared.offset.Moved.the-variants as child
+use Rattle.scope.specs.Offset.{parentOf, Moved}
+use Rattle.layout.specs.declared.offset.Repositioned.{Repositioned}
+use Rattle.layout.specs.declared.offset.Repositioned.the-variants as child
 
 -- a number below n is the parent's, any other says that there is none
 unfoldable pub numbered : ℕ → ℕ → Option ℕ
 numbered n p = cond (ltb p n) (some p) none
 
-abbrev pub moved : Moved → Option Circle
+abbrev pub moved : Repositioned → Option Circle
 moved (child.To c) = some c
 moved child.Stays = none
 
@@ -28,5 +28,5 @@ abbrev pub ParentsOf : ℕ → List Region → List ℕ → Type 0
 ParentsOf n rs ps = (i : ℕ) → i < n → parentAt n ps i ≡ parentOf n rs i
 
 -- the circles and the mask at a moment of the step
-abbrev pub moment : List Circle → ℕ → Step
+abbrev pub moment : List Circle → ℕ → Moved
 moment cs mask = record { circles = cs; mask = mask }

@@ -6,7 +6,8 @@ use lib.ListN.{drop}
 use Rattle.shapes.specs.declared.circle.Circle.{Circle}
 use Rattle.scope.specs.Runs.{tab}
 use Rattle.scope.specs.Links.{circle}
-use Rattle.intake.specs.Columns.{at, circleOf}
+use Rattle.shapes.specs.Records.{circleOf}
+use Rattle.intake.specs.Columns.{at}
 
 -- the first circles at other centres, with their radii; the rest as it is
 unfoldable pub recentred : ℕ → List Float → List Float → List Circle → List Circle

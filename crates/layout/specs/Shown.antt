@@ -14,8 +14,8 @@ use Rattle.scope.specs.Padding.{boxes}
 use Rattle.scope.specs.Layout.{Layout, arranged}
 use Rattle.intake.specs.Limits.{maxCircles}
 use Rattle.intake.specs.Columns.{circlesOf, Lifted}
-use Rattle.layout.specs.ClusterBoxes.{Numbered}
-use Rattle.layout.specs.Laid.{Packable}
+use Rattle.layout.specs.ClusterBoxes.{InClusters}
+use Rattle.layout.specs.Laid.{WithinPacking}
 
 -- three lists of one length, the third of radii that the lift leaves as they are
 abbrev pub CircleLists : List Float → List Float → List Float → Type 0
@@ -51,7 +51,7 @@ BoxRoom xs ys rs numbers across widths up heights =
     × (length widths ≡ length across)
     × (length up ≡ length across)
     × (length heights ≡ length across)
-    × Numbered (length across) numbers
+    × InClusters (length across) numbers
 
 -- circles in count clusters which, as they stand in cs, are within the packing's ranges
 abbrev pub ToPack : ℕ → List ℕ → Float → List Float → List Float → List Float → List Circle → Type 0
@@ -61,5 +61,5 @@ ToPack count numbers factor xs ys rs cs =
     × (length numbers ≡ length xs)
     × Lifted rs
     × (count ≤ maxCircles)
-    × Numbered count numbers
-    × Packable count numbers cs factor
+    × InClusters count numbers
+    × WithinPacking count numbers cs factor

@@ -4,7 +4,7 @@ ghost use Prim.Native.Nat.{_<_};
 ghost use lib.ListN.{length};
 ghost use Rattle.intake.specs.Columns.{each};
 ghost use Rattle.layout.specs.ClusterBoxes.{
-  Numbered,
+  InClusters,
   lowsOf,
   highsOf,
   middlesOf,
@@ -49,7 +49,7 @@ pub(crate) fn cluster_ranges(
     highs: &mut [f64],
 )
     requires { ⌜ (length (now radii) ≡ length (now coords)) × (length (now numbers) ≡ length (now coords)) × (length (now highs) ≡ length (now lows))
-        × Numbered (length (now lows)) (now numbers) ⌝ }
+        × InClusters (length (now lows)) (now numbers) ⌝ }
     ensures low { λ _. ⌜ now (lows .exit) ≡ lowsOf (length (now (lows .entry))) (now (numbers .entry)) (now (coords .entry)) (now (radii .entry)) ⌝ }
     ensures high { λ _. ⌜ now (highs .exit) ≡ highsOf (length (now (lows .entry))) (now (numbers .entry)) (now (coords .entry)) (now (radii .entry)) ⌝ }
 {
@@ -112,7 +112,7 @@ pub(crate) fn padding_of(widths: &[f64], heights: &[f64], factor: f64) -> f64
 
 // Each circle moves as the middle of its cluster does, from olds to news.
 pub(crate) fn shift(coords: &mut [f64], numbers: &[u8], olds: &[f64], news: &[f64])
-    requires { ⌜ (length (now numbers) ≡ length (now coords)) × (length (now news) ≡ length (now olds)) × Numbered (length (now olds)) (now numbers) ⌝ }
+    requires { ⌜ (length (now numbers) ≡ length (now coords)) × (length (now news) ≡ length (now olds)) × InClusters (length (now olds)) (now numbers) ⌝ }
     ensures { λ _. ⌜ now (coords .exit) ≡ shiftedBy (now (numbers .entry)) (now (olds .entry)) (now (news .entry)) (now (coords .entry)) ⌝ }
 {
     let mut i: usize = 0;

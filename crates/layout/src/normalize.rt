@@ -15,7 +15,7 @@ ghost use Rattle.intake.specs.Columns.{circlesOf, Lifted};
 ghost use Rattle.intake.specs.CauseWords.{front};
 ghost use Rattle.packing.specs.Lists.{FullLength};
 ghost use Rattle.layout.specs.Answers.{resultOf, laidOut};
-ghost use Rattle.layout.specs.ClusterBoxes.{Numbered, BoxLists};
+ghost use Rattle.layout.specs.ClusterBoxes.{InClusters, BoxLists};
 ghost use Rattle.layout.specs.FirstLayout.{firstLayout};
 ghost use Rattle.layout.specs.Laid.{Laid, packedClusters, settledClusters};
 ghost use Rattle.layout.specs.Shown.{Become, partedOf, gaugedOf, arrangedOf, boxesOf, BoxRoom, ToPack};
@@ -325,7 +325,7 @@ fn boxed_front(
     heights: &mut [f64],
 ) -> f64
     requires { ⌜ (length (now ys) ≡ length (now xs)) × (length (now radii) ≡ length (now xs)) × (length (now numbers) ≡ length (now xs))
-        × (count ≤ maxCircles) × Numbered count (now numbers) × FullLength (now across) (now widths) (now up) (now heights) ⌝ }
+        × (count ≤ maxCircles) × InClusters count (now numbers) × FullLength (now across) (now widths) (now up) (now heights) ⌝ }
     ensures lists { λ _. ⌜ BoxLists (boxesOf count (now (numbers .entry)) (now (xs .entry)) (now (ys .entry)) (now (radii .entry)))
         (take count (now (across .exit))) (take count (now (widths .exit))) (take count (now (up .exit))) (take count (now (heights .exit))) ⌝ }
     ensures padding { λ r. ⌜ r ≡ padding (boxesOf count (now (numbers .entry)) (now (xs .entry)) (now (ys .entry)) (now (radii .entry))) factor ⌝ }

@@ -50,7 +50,7 @@ use shapes::extremes::maximum;
 use shapes::point::Point;
 
 // Where a child is moved to, if it is.
-enum Moved {
+enum Repositioned {
     To(Circle),
     Stays,
 }
@@ -370,7 +370,7 @@ fn blocked(xs: &[f64], ys: &[f64], radii: &[f64], p: usize, i: usize, c: Circle)
 }
 
 // The child half-way between the parent's centre and its edge, unless it is there, would not lie inside, or would meet another circle.
-fn reposition_contained_child(xs: &[f64], ys: &[f64], radii: &[f64], p: usize, i: usize) -> Moved
+fn reposition_contained_child(xs: &[f64], ys: &[f64], radii: &[f64], p: usize, i: usize) -> Repositioned
     requires { ⌜ (length (now ys) ≡ length (now xs)) × (length (now radii) ≡ length (now xs)) × (p < length (now xs)) × (i < length (now xs)) ⌝ }
     ensures { λ r. ⌜ moved r ≡ repositioned (circlesOf (now (xs .entry)) (now (ys .entry)) (now (radii .entry))) p i ⌝ }
 {
@@ -379,20 +379,20 @@ fn reposition_contained_child(xs: &[f64], ys: &[f64], radii: &[f64], p: usize, i
     let u = direction(parent, child);
     let d_max = max_contained_offset(parent, child, u);
     if d_max <= 0.0 {
-        return Moved::Stays;
+        return Repositioned::Stays;
     }
     let d = 0.5 * d_max;
     if there(way_to(parent, child, u, d), d_max) {
-        return Moved::Stays;
+        return Repositioned::Stays;
     }
     let c = child_at(parent, child, u, d);
     if !contains(parent, c) {
-        return Moved::Stays;
+        return Repositioned::Stays;
     }
     if blocked(xs, ys, radii, p, i, c) {
-        return Moved::Stays;
+        return Repositioned::Stays;
     }
-    Moved::To(c)
+    Repositioned::To(c)
 }
 
 // ---- the step
@@ -438,12 +438,12 @@ fn tried(xs: &mut [f64], ys: &mut [f64], radii: &[f64], parents: &[u16], i: usiz
     }
     let to = reposition_contained_child(xs, ys, radii, p, i);
     match to {
-        Moved::To(c) => {
+        Repositioned::To(c) => {
             xs[i] = c.center.x;
             ys[i] = c.center.y;
             true
         }
-        Moved::Stays => false,
+        Repositioned::Stays => false,
     }
 }
 

@@ -15,7 +15,7 @@ use lib.Ieee.Compare.{differs-from-itself}
 use Rattle.rounding.specs.Root.{root}
 use Rattle.root.specs.declared.answers.Root.the-variants.{Of, Refused}
 use Rattle.root.specs.Answer.{answer, refused}
-use Rattle.root.specs.Parts.{infinity, units}
+use Rattle.root.specs.Parts.{infinity, patternUnits}
 use Rattle.root.proofs.Callers.{answer-refused, answer-given}
 use Rattle.root.proofs.ScaleLaws.{units-pos}
 use Rattle.root.proofs.PatternLaws.{pattern-fields, subnormal-field, normal-field, pattern-value}
@@ -43,7 +43,7 @@ value-refused (fin t zero d) s a c v p = absurd (no-zero-value (up d) c a (down 
 value-refused (fin t (suc m) d) s a c v p = v .0
 
 pattern-above : (b : ℕ) → 0 < b → b < infinity → answer (ofBits binary64 b) ≡ Of (root binary64 (ofBits binary64 b))
-pattern-above b p h = answer-given (ofBits binary64 b) (value-refused (ofBits binary64 b) false (units b) (2 ^ 1074) (pattern-value b h) (units-pos b p))
+pattern-above b p h = answer-given (ofBits binary64 b) (value-refused (ofBits binary64 b) false (patternUnits b) (2 ^ 1074) (pattern-value b h) (units-pos b p))
 
 -- with a sign, and with an exponent field x or digits t
 top-field-refused : (t : ℕ) → refused (ofFields binary64 true 2047 t) ≡ true

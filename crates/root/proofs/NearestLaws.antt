@@ -15,12 +15,12 @@ use Rattle.rounding.specs.Value.{mag, Fin}
 use Rattle.rounding.proofs.Value.{mag-of, sign-of, fin-both}
 use Rattle.rounding.proofs.root.Operation.{root-is-nearest}
 use Rattle.rounding.proofs.root.Units.{units-root-unique}
-use Rattle.root.specs.Parts.{infinity, units, one, IsSplit, IsWholeRoot}
+use Rattle.root.specs.Parts.{infinity, patternUnits, one, IsSplit, IsWholeRoot}
 use Rattle.root.proofs.WholeLaws.{root-lt, le-root}
 use Rattle.root.proofs.PatternLaws.{pattern-value, joined-value, has-value-no-nan}
 
 -- ---- the half-way points around s
-pub record Rounded (M s : ℕ) : Type 0 where
+pub record RoundedRoot (M s : ℕ) : Type 0 where
   pub low : 2 ^ 52 ≤ s
   pub high : s ≤ 2 ^ 53
   pub above : (s * 2 - 1) * (s * 2 - 1) < M
@@ -39,7 +39,7 @@ above-half-way m q left k (suc s) w e h = from (q - k) (omega arith) (omega arit
 below-half-way : (M q left s : ℕ) → IsWholeRoot M q left → q ≤ s * 2 → M < (s * 2 + 1) * (s * 2 + 1)
 below-half-way M q left s w h = let l : q + 1 ≤ s * 2 + 1 = omega arith in omega (arith, mul-le-mul l l)
 
-rounded : (m q left : ℕ) → 2 ^ 52 ≤ m → m < 2 ^ 54 → IsWholeRoot (m * 2 ^ 54) q left → Rounded (m * 2 ^ 54) ((q + 1) / 2)
+rounded : (m q left : ℕ) → 2 ^ 52 ≤ m → m < 2 ^ 54 → IsWholeRoot (m * 2 ^ 54) q left → RoundedRoot (m * 2 ^ 54) ((q + 1) / 2)
 rounded m q left lo hi w =
     let s = (q + 1) / 2 in
     let a : 2 ^ 53 ≤ q = le-root (m * 2 ^ 54) q left (2 ^ 53) w (omega arith) in
@@ -73,7 +73,7 @@ one-is a A q = ap (λ (y : ℕ). y * 2 ^ 1074) (sym q)
 
 -- x is A units, and A * 2 ^ 1074 is M * 4 ^ h; z is s * 2 ^ (h + 1) units
 rounded-is-root : (x z : Float) (A M s h : ℕ) → T (fits binary64 x) → HasValue x false A (2 ^ 1074) → T (fits binary64 z) → HasValue z false (s * 2 ^ suc h) (2 ^ 1074) → h < 1600
-    → M * (2 ^ h * 2 ^ h) ≡ A * one → 2 ^ 53 * 2 ^ 53 ≤ M → M < 2 ^ 54 * 2 ^ 54 → Rounded M s → root binary64 x ≡ z
+    → M * (2 ^ h * 2 ^ h) ≡ A * one → 2 ^ 53 * 2 ^ 53 ≤ M → M < 2 ^ 54 * 2 ^ 54 → RoundedRoot M s → root binary64 x ≡ z
 rounded-is-root x z A M s h f v g w b e lo hi r =
     let P = 2 ^ h in
     let pos : 0 < P = pow-pos h in
@@ -120,6 +120,6 @@ module _ (b m h q left : ℕ) (split : IsSplit b m h) (w : IsWholeRoot (m * 2 ^ 
   pub result-is-root : b < infinity → ofBits binary64 ((h + 1) * 2 ^ 52 + (q + 1) / 2) ≡ root binary64 (ofBits binary64 b)
   result-is-root l =
       let z = (h + 1) * 2 ^ 52 + (q + 1) / 2 in
-      sym (rounded-is-root (ofBits binary64 b) (ofBits binary64 z) (units b) (m * 2 ^ 54) ((q + 1) / 2) h (ofBits-fits binary64 b) (pattern-value b l)
+      sym (rounded-is-root (ofBits binary64 b) (ofBits binary64 z) (patternUnits b) (m * 2 ^ 54) ((q + 1) / 2) h (ofBits-fits binary64 b) (pattern-value b l)
       (ofBits-fits binary64 z) result-value (split .exponent) (split .value)
       (mul-le-mul-right (2 ^ 54) (split .low)) (mul-lt-mul-of-pos-right (split .high) (pow-pos 54)) (rounded m q left (split .low) (split .high) w))

@@ -12,7 +12,7 @@ use lib.Ieee.{Float, nan, inf, fin, binary64, odd, ofFields, ofBits, isNan, nanB
 use lib.Ieee.Bits.{is-false, nanBits-is}
 use lib.Ieee.Exact.{HasValue, odd-sign}
 use Rattle.algebra.proofs.Size.{either}
-use Rattle.root.specs.Parts.{infinity, units}
+use Rattle.root.specs.Parts.{infinity, patternUnits}
 use Rattle.root.proofs.ScaleLaws.{units-subnormal, units-normal}
 
 -- ---- the fields of a pattern
@@ -52,7 +52,7 @@ subnormal-value b h = subst (λ (z : ℕ). HasValue (ofBits binary64 z) false b 
 normal-value : (x t : ℕ) → suc x < 2047 → t < 2 ^ 52 → HasValue (ofBits binary64 (suc x * 2 ^ 52 + t)) false ((2 ^ 52 + t) * 2 ^ x) (2 ^ 1074)
 normal-value x t X H = rw (unsigned-fields (suc x) t (omega arith) H) (normal-field false x t X)
 
-pub pattern-value : (b : ℕ) → b < infinity → HasValue (ofBits binary64 b) false (units b) (2 ^ 1074)
+pub pattern-value : (b : ℕ) → b < infinity → HasValue (ofBits binary64 b) false (patternUnits b) (2 ^ 1074)
 pattern-value b h = elim (either b (2 ^ 52)) [
   | inl l ↦ rw (units-subnormal b l) (subnormal-value b l)
   | inr l ↦

@@ -8,50 +8,50 @@ use mathlib.Core.Bool.{Bool, true, false, not, cond}
 use lib.Dec.{T, ltb, ltb→lt, nltb→le}
 use lib.Pow.{pow-add, pow-pos}
 use Rattle.algebra.proofs.Size.{either}
-use Rattle.root.specs.Parts.{infinity, units, one, IsNormal, IsSplit}
+use Rattle.root.specs.Parts.{infinity, patternUnits, one, IsNormal, IsSplit}
 
 -- ---- the value of a pattern, by its exponent field
-pub units-subnormal : (b : ℕ) → b < 2 ^ 52 → units b ≡ b
-unfolding units
+pub units-subnormal : (b : ℕ) → b < 2 ^ 52 → patternUnits b ≡ b
+unfolding patternUnits
 units-subnormal b h = pick (ltb b (2 ^ 52)) (nltb→le b (2 ^ 52))
   where
     pick : (t : Bool) → (T (not t) → 2 ^ 52 ≤ b) → cond t b ((2 ^ 52 + b % 2 ^ 52) * 2 ^ (b / 2 ^ 52 - 1)) ≡ b
     pick true n = refl
     pick false n = let l = n tt in absurd (omega arith)
 
-pub units-normal : (b : ℕ) → 2 ^ 52 ≤ b → units b ≡ (2 ^ 52 + b % 2 ^ 52) * 2 ^ (b / 2 ^ 52 - 1)
-unfolding units
+pub units-normal : (b : ℕ) → 2 ^ 52 ≤ b → patternUnits b ≡ (2 ^ 52 + b % 2 ^ 52) * 2 ^ (b / 2 ^ 52 - 1)
+unfolding patternUnits
 units-normal b h = pick (ltb b (2 ^ 52)) (ltb→lt b (2 ^ 52))
   where
     pick : (t : Bool) → (T t → b < 2 ^ 52) → cond t b ((2 ^ 52 + b % 2 ^ 52) * 2 ^ (b / 2 ^ 52 - 1)) ≡ (2 ^ 52 + b % 2 ^ 52) * 2 ^ (b / 2 ^ 52 - 1)
     pick true n = let l = n tt in absurd (omega arith)
     pick false n = refl
 
-pub units-pos : (b : ℕ) → 0 < b → 0 < units b
+pub units-pos : (b : ℕ) → 0 < b → 0 < patternUnits b
 units-pos b h = elim (either b (2 ^ 52)) [
   | inl l ↦ rw (units-subnormal b l) h
   | inr l ↦ rw (units-normal b l) (mul-pos (omega arith) (pow-pos (b / 2 ^ 52 - 1)))
 ]
 
 -- ---- below the smallest normal number: the digits are doubled until there are 53
-pub record Shifted (b m k : ℕ) : Type 0 where
+pub record Doubled (b m k : ℕ) : Type 0 where
   pub value : m * 2 ^ k ≡ b * 2 ^ 52
   pub some : 0 < m
   pub high : m < 2 ^ 53
   pub count : k ≤ 52
 
-pub exponent-left : (b m k : ℕ) → 0 < b → Shifted b m k → m < 2 ^ 52 → 0 < k
+pub exponent-left : (b m k : ℕ) → 0 < b → Doubled b m k → m < 2 ^ 52 → 0 < k
 exponent-left b m zero p w h = let v = w .value in absurd (omega arith)
 exponent-left b m (suc k) p w h = omega arith
 
-pub shift : (b m k : ℕ) → 0 < b → Shifted b m k → m < 2 ^ 52 → Shifted b (m * 2) (k - 1)
+pub shift : (b m k : ℕ) → 0 < b → Doubled b m k → m < 2 ^ 52 → Doubled b (m * 2) (k - 1)
 shift b m zero p w h = let v = w .value in absurd (omega arith)
 shift b m (suc k) p w h =
     let v : m * 2 * 2 ^ k ≡ b * 2 ^ 52 = mul-assoc m 2 (2 ^ k) ∙ ap (λ (x : ℕ). m * x) (sym (pow-succ' 2 k)) ∙ w .value in
     let e : suc k - 1 ≡ k = omega arith in
     rw e (record { value = v; some = omega arith; high = omega arith; count = omega arith })
 
-pub shifted-is-normal : (b m k : ℕ) → b < 2 ^ 52 → Shifted b m k → 2 ^ 52 ≤ m → IsNormal b m k
+pub shifted-is-normal : (b m k : ℕ) → b < 2 ^ 52 → Doubled b m k → 2 ^ 52 ≤ m → IsNormal b m k
 shifted-is-normal b m k h w l = record { value = w .value ∙ ap (λ (x : ℕ). x * 2 ^ 52) (sym (units-subnormal b h)); low = l; high = w .high; exponent = omega arith }
 
 -- ---- from there on the digits are 2 ^ 52 and the pattern's own
@@ -77,10 +77,10 @@ powers-joined : (m h : ℕ) → m * 2 ^ 54 * (2 ^ h * 2 ^ h) ≡ m * 2 ^ (54 + (
 powers-joined m h = mul-assoc m (2 ^ 54) (2 ^ h * 2 ^ h) ∙ ap (λ (x : ℕ). m * x) (ap (λ (x : ℕ). 2 ^ 54 * x) (sym (pow-add 2 h h)) ∙ sym (pow-add 2 54 (h + h)))
 
 -- the value as a multiple of 2 ^ -2148
-value-squared : (b m k : ℕ) → IsNormal b m k → m * 2 ^ (k + 1022) ≡ units b * one
+value-squared : (b m k : ℕ) → IsNormal b m k → m * 2 ^ (k + 1022) ≡ patternUnits b * one
 value-squared b m k w =
     ap (λ (x : ℕ). m * x) (pow-add 2 k 1022) ∙ sym (mul-assoc m (2 ^ k) (2 ^ 1022)) ∙ ap (λ (x : ℕ). x * 2 ^ 1022) (w .value)
-    ∙ mul-assoc (units b) (2 ^ 52) (2 ^ 1022) ∙ ap (λ (x : ℕ). units b * x) one-is
+    ∙ mul-assoc (patternUnits b) (2 ^ 52) (2 ^ 1022) ∙ ap (λ (x : ℕ). patternUnits b * x) one-is
 
 pub even-split : (b m k : ℕ) → IsNormal b m k → k % 2 ≡ 0 → IsSplit b m (k / 2 + 484)
 even-split b m k w h =

@@ -9,8 +9,8 @@ abbrev pub infinity : ℕ
 infinity = 2047 * 2 ^ 52
 
 -- the value of the pattern b of a finite f64 that is not negative, as a multiple of 2 ^ -1074
-unfoldable pub units : ℕ → ℕ
-units b = cond (ltb b (2 ^ 52)) b ((2 ^ 52 + b % 2 ^ 52) * 2 ^ (b / 2 ^ 52 - 1))
+unfoldable pub patternUnits : ℕ → ℕ
+patternUnits b = cond (ltb b (2 ^ 52)) b ((2 ^ 52 + b % 2 ^ 52) * 2 ^ (b / 2 ^ 52 - 1))
 
 -- 1 as a multiple of 2 ^ -1074
 unfoldable pub one : ℕ
@@ -18,7 +18,7 @@ one = 2 ^ 1074
 
 -- m has 53 digits, and m * 2 ^ k is the value of b as a multiple of 2 ^ -1126
 pub record IsNormal (b m k : ℕ) : Type 0 where
-  pub value : m * 2 ^ k ≡ units b * 2 ^ 52
+  pub value : m * 2 ^ k ≡ patternUnits b * 2 ^ 52
   pub low : 2 ^ 52 ≤ m
   pub high : m < 2 ^ 53
   pub exponent : k < 2100
@@ -26,7 +26,7 @@ pub record IsNormal (b m k : ℕ) : Type 0 where
 -- m has 53 or 54 digits, and m * 2 ^ 54 has the root that b's value has, up to 2 ^ h: as a multiple of 2 ^ -1074 that root is 2 ^ h times the root
 -- of m * 2 ^ 54. Both sides are the value as a multiple of 2 ^ -2148
 pub record IsSplit (b m h : ℕ) : Type 0 where
-  pub value : m * 2 ^ 54 * (2 ^ h * 2 ^ h) ≡ units b * one
+  pub value : m * 2 ^ 54 * (2 ^ h * 2 ^ h) ≡ patternUnits b * one
   pub low : 2 ^ 52 ≤ m
   pub high : m < 2 ^ 54
   pub exponent : h < 1600

@@ -10,7 +10,7 @@ ghost use Rattle.shapes.specs.Boxes.{
   circleBox,
   rectangleBox,
 };
-ghost use Rattle.shapes.specs.Lift.{circleAt};
+ghost use Rattle.shapes.specs.Lift.{liftedCircle};
 ghost use Rattle.rundhefja.specs.Answers.{sharedOf};
 use crate::answers::Shared;
 use shapes::bounds::Bounds;
@@ -88,7 +88,7 @@ pub extern "C" fn rundhefja_rectangle_bounds(r: Rectangle) -> Bounds
 // The radius is lifted.
 #[no_mangle]
 pub extern "C" fn rundhefja_circle_from_params(x: f64, y: f64, radius: f64) -> Circle
-    ensures { λ r. ⌜ r ≡ circleAt x y radius ⌝ }
+    ensures { λ r. ⌜ r ≡ liftedCircle x y radius ⌝ }
 {
     Circle::from_params(x, y, radius)
 }

@@ -64,11 +64,11 @@ pub data Field : Type 0 where
   regionField : ℕ → Float → Field
 
 -- "(x, y, radius)"
-unfoldable pub circleOf : List ℕ → Circle
-circleOf bs = record { center = pointAt (floatOf (word bs 0)) (floatOf (word bs 8)); radius = floatOf (word bs 16) }
+unfoldable pub circleFrom : List ℕ → Circle
+circleFrom bs = record { center = pointAt (floatOf (word bs 0)) (floatOf (word bs 8)); radius = floatOf (word bs 16) }
 
 unfoldable pub fieldOf : ℕ → List ℕ → Field
-fieldOf t bs = cond (eqb t 1) (factorField (floatOf (word bs 0))) (cond (eqb t 2) (circleField (circleOf bs)) (regionField (word bs 0) (floatOf (word bs 8))))
+fieldOf t bs = cond (eqb t 1) (factorField (floatOf (word bs 0))) (cond (eqb t 2) (circleField (circleFrom bs)) (regionField (word bs 0) (floatOf (word bs 8))))
 
 -- "Both calls take a place in the file and know no order or count: they check head (11), tag 1, 2 or 3 (9), length (10), body (11)"
 unfoldable pub fieldRefusal : List ℕ → ℕ
@@ -99,7 +99,7 @@ unfoldable pub withField : Card → List ℕ → Card
 withField card rest =
     let bs = body rest in
     cond (eqb (tag rest) 2)
-    (record { factor = card .factor; circles = card .circles ++ circleOf bs ∷ []; masks = card .masks; patterns = card .patterns; areas = card .areas })
+    (record { factor = card .factor; circles = card .circles ++ circleFrom bs ∷ []; masks = card .masks; patterns = card .patterns; areas = card .areas })
     (record {
       factor = card .factor;
       circles = card .circles;

@@ -11,7 +11,7 @@ use Rattle.scope.specs.Numbers.{nought, one, half, whole, e-10}
 use Rattle.scope.specs.Runs.{tab, filled}
 use Rattle.scope.specs.Limits.{circleCap, coordinateOk, radiusOk, factorOk}
 use Rattle.scope.specs.Refusals.{refused, given, layoutRefusal}
-use Rattle.shapes.specs.Records.{pointAt, rectangleOf}
+use Rattle.shapes.specs.Records.{pointAt, circleOf, rectangleOf}
 use Rattle.scope.specs.Distance.{rootAnswer, distanceAnswer, circleDistanceAnswer, containsPointAnswer}
 use Rattle.scope.specs.Links.{regions}
 use Rattle.scope.specs.Groups.{Grouping, areaGrouping, plainGrouping, clusters}
@@ -22,7 +22,7 @@ use Rattle.scope.specs.CardFile.{factorField, circleField, regionField, 
 use Rattle.scope.specs.Text.{bytes}
 use Rattle.scope.specs.Print.{cardText, float}
 use Rattle.scope.specs.Computing.{computing}
-use Rattle.scope.specs.Samples.{circleAt, wholeCircle, grouped, fileJ}
+use Rattle.scope.specs.Samples.{wholeCircle, grouped, fileJ}
 
 -- ---- ranges and root
 
@@ -50,7 +50,7 @@ pub record RangeChecks : Type 0 where
   pub points-nan : distanceAnswer (pointAt nan nought) (pointAt nought nought) ≡ refused 3
   pub circles : circleDistanceAnswer (wholeCircle 0 0 1) (wholeCircle 3 4 2) ≡ given (whole 2)
   pub circles-touch : circleDistanceAnswer (wholeCircle 0 0 2) (wholeCircle 3 4 3) ≡ given nought
-  pub circles-both : circleDistanceAnswer (circleAt nan nought nought) (wholeCircle 3 4 3) ≡ refused 3
+  pub circles-both : circleDistanceAnswer (circleOf nan nought nought) (wholeCircle 3 4 3) ≡ refused 3
   pub circles-radius : circleDistanceAnswer (wholeCircle 0 0 0) (wholeCircle 3 4 3) ≡ refused 4
   pub on-the-edge : containsPointAnswer (wholeCircle 0 0 5) (pointAt (whole 3) (whole 4)) ≡ given true
 
@@ -232,7 +232,7 @@ unit = circleBytes 0 0 (wholeBits 1)
 -- a card so far: n circles and m regions
 unfoldable pub soFar : ℕ → ℕ → Card
 soFar n m =
-    record { factor = nought; circles = replicate n (circleAt nought nought one); masks = replicate m 1; patterns = replicate m 0; areas = replicate m nought }
+    record { factor = nought; circles = replicate n (circleOf nought nought one); masks = replicate m 1; patterns = replicate m 0; areas = replicate m nought }
 
 pub record ReaderChecks : Type 0 where
   pub empty : cardText [] ≡ bytes "refused 9\n"
@@ -325,8 +325,8 @@ reader =
 unfoldable pub box : Float → Rectangle
 box s = rectangleOf (pointAt (whole 9) (whole 9)) s s
 
-abbrev pub square : Float → Float → Float → Rectangle
-square x y s = rectangleOf (pointAt x y) s s
+abbrev pub squareBox : Float → Float → Float → Rectangle
+squareBox x y s = rectangleOf (pointAt x y) s s
 
 pub record PackingChecks : Type 0 where
   -- sides 2, 1, 2 and padding 1/2: mistake "sorting equal boxes backwards"
@@ -335,9 +335,9 @@ pub record PackingChecks : Type 0 where
         refusal = 0;
         rectangles =
             filled circleCap noRectangle
-            (square (fin false 5 (negsuc 1)) (fin false 5 (negsuc 1)) (whole 2)
-            ∷ square (fin false 23 (negsuc 1)) (fin false 5 (negsuc 1)) one
-            ∷ square (fin false 15 (negsuc 1)) (fin false 5 (negsuc 1)) (whole 2)
+            (squareBox (fin false 5 (negsuc 1)) (fin false 5 (negsuc 1)) (whole 2)
+            ∷ squareBox (fin false 23 (negsuc 1)) (fin false 5 (negsuc 1)) one
+            ∷ squareBox (fin false 15 (negsuc 1)) (fin false 5 (negsuc 1)) (whole 2)
             ∷ []);
       }
   pub bad-side : skylinePack (box (neg one) ∷ []) nan ≡ record { refusal = 7; rectangles = filled circleCap noRectangle [] }
@@ -347,14 +347,14 @@ pub record PackingChecks : Type 0 where
   pub columns-65 : columnsAnswer 65 ≡ refused 1
   pub rows-61 : rows 61 10 ≡ 7
   -- the container goes to the origin and the circle to its middle
-  pub container : contained (wholeCircle 5 5 1 ∷ []) (square (whole 4) (whole 4) (whole 10))
-      ≡ record { refusal = 0; container = square nought nought (whole 10); circles = wholeCircle 0 0 1 ∷ [] }
+  pub container : contained (wholeCircle 5 5 1 ∷ []) (squareBox (whole 4) (whole 4) (whole 10))
+      ≡ record { refusal = 0; container = squareBox nought nought (whole 10); circles = wholeCircle 0 0 1 ∷ [] }
   -- a circle that reaches past stays where step 1 left it
-  pub past : contained (wholeCircle 5 5 9 ∷ []) (square (whole 4) (whole 4) (whole 10))
-      ≡ record { refusal = 0; container = square nought nought (whole 10); circles = wholeCircle 1 1 9 ∷ [] }
+  pub past : contained (wholeCircle 5 5 9 ∷ []) (squareBox (whole 4) (whole 4) (whole 10))
+      ≡ record { refusal = 0; container = squareBox nought nought (whole 10); circles = wholeCircle 1 1 9 ∷ [] }
   -- after a refusal all comes back as given
-  pub bad-container : contained (wholeCircle 5 5 1 ∷ []) (square (whole 4) (whole 4) (neg one))
-      ≡ record { refusal = 7; container = square (whole 4) (whole 4) (neg one); circles = wholeCircle 5 5 1 ∷ [] }
+  pub bad-container : contained (wholeCircle 5 5 1 ∷ []) (squareBox (whole 4) (whole 4) (neg one))
+      ≡ record { refusal = 7; container = squareBox (whole 4) (whole 4) (neg one); circles = wholeCircle 5 5 1 ∷ [] }
 
 pub packs : PackingChecks
 unfolding computing box

@@ -11,7 +11,7 @@ use Rattle.scope.specs.Numbers.{nought, one, whole, e-10}
 use Rattle.scope.specs.Runs.{filled}
 use Rattle.scope.specs.Limits.{circleCap}
 use Rattle.scope.specs.Refusals.{given}
-use Rattle.shapes.specs.Records.{pointAt}
+use Rattle.shapes.specs.Records.{pointAt, circleOf}
 use Rattle.scope.specs.Distance.{rootAnswer, containsAnswer, intersectsAnswer}
 use Rattle.scope.specs.Groups.{Grouping, areaGrouping}
 use Rattle.scope.specs.Packing.{columnsAnswer}
@@ -20,13 +20,9 @@ use Rattle.scope.specs.Text.{bytes}
 use Rattle.scope.specs.Print.{cardText}
 use Rattle.scope.specs.Computing.{computing}
 
--- the circle (x, y, radius)
-abbrev pub circleAt : Float → Float → Float → Circle
-circleAt x y r = record { center = pointAt x y; radius = r }
-
--- the same of whole numbers
+-- the circle (x, y, radius) of whole numbers
 abbrev pub wholeCircle : ℕ → ℕ → ℕ → Circle
-wholeCircle x y r = circleAt (whole x) (whole y) (whole r)
+wholeCircle x y r = circleOf (whole x) (whole y) (whole r)
 
 -- an accepted clustering: the count, and the numbers of the circles
 abbrev pub grouped : ℕ → List ℕ → Grouping

@@ -6,7 +6,7 @@ use Rattle.rounding.specs.Extremes.{maximum}
 use Rattle.shapes.specs.declared.circle.Circle.{Circle}
 use Rattle.shapes.specs.Records.{pointAt}
 use Rattle.shapes.specs.Limits.{smallestNormal, radiusInRange}
-use Rattle.shapes.specs.Lift.{lift, circleAt, movedTo}
+use Rattle.shapes.specs.Lift.{lift, liftedCircle, movedTo}
 use Rattle.shapes.proofs.Limits.{accepted-not-below}
 
 pub lift-keeps : (r : Float) → lt r smallestNormal ≡ false → lift r ≡ r
@@ -38,5 +38,5 @@ moved-centre c x y = refl
 pub moved-twice : (c : Circle) (x y u v : Float) → movedTo (movedTo c x y) u v ≡ movedTo c u v
 moved-twice c x y u v = rw (lift-twice (c .radius))
 
-pub moved-from-params : (x y r u v : Float) → movedTo (circleAt x y r) u v ≡ circleAt u v r
+pub moved-from-params : (x y r u v : Float) → movedTo (liftedCircle x y r) u v ≡ liftedCircle u v r
 moved-from-params x y r u v = rw (lift-twice r)

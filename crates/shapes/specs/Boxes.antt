@@ -53,9 +53,9 @@ boxAround p w h = boxOf (sub binary64 (p .x) w) (add binary64 (p .x) w) (sub bin
 abbrev pub circleBox : Circle → Bounds
 circleBox c = boxAround (c .center) (c .radius) (c .radius)
 
-unfoldable pub half : Float → Float
-half x = div binary64 x (fin false 1 (pos 1))
+unfoldable pub halfOf : Float → Float
+halfOf x = div binary64 x (fin false 1 (pos 1))
 
 -- a rectangle's centre less and plus half of each side
 abbrev pub rectangleBox : Rectangle → Bounds
-rectangleBox r = boxAround (r .center) (half (r .width)) (half (r .height))
+rectangleBox r = boxAround (r .center) (halfOf (r .width)) (halfOf (r .height))

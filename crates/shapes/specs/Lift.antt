@@ -10,8 +10,8 @@ unfolding maximum smallestNormal
 lift r = maximum r smallestNormal
 
 -- the circle of three parameters
-abbrev pub circleAt : Float → Float → Float → Circle
-circleAt x y r = record { center = pointAt x y; radius = lift r }
+abbrev pub liftedCircle : Float → Float → Float → Circle
+liftedCircle x y r = record { center = pointAt x y; radius = lift r }
 
 -- the same circle, its radius lifted, at another centre
 abbrev pub movedTo : Circle → Float → Float → Circle

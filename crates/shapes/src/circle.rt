@@ -2,7 +2,7 @@
 ghost use mathlib.Core.Path.{_≡_};
 ghost use Rattle.shapes.specs.Boxes.{circleBox};
 ghost use Rattle.shapes.specs.Limits.{radiusInRange};
-ghost use Rattle.shapes.specs.Lift.{lift, circleAt, movedTo};
+ghost use Rattle.shapes.specs.Lift.{lift, liftedCircle, movedTo};
 use crate::bounds::Bounds;
 use crate::extremes::maximum;
 use crate::point::Point;
@@ -39,7 +39,7 @@ impl Circle {
 
     // The circle of three numbers. A radius that is too small, 0 or negative is lifted, so that the circle is one.
     pub fn from_params(x: f64, y: f64, radius: f64) -> Self
-        ensures { λ r. ⌜ r ≡ circleAt x y radius ⌝ }
+        ensures { λ r. ⌜ r ≡ liftedCircle x y radius ⌝ }
     {
         Circle {
             center: Point::new(x, y),

@@ -45,9 +45,9 @@ use Rattle.shapes.proofs.circle.Circle as T
 use Rattle.intake.specs.Limits.{maxCircles}
 use Rattle.intake.specs.Columns.{xsOf, ysOf, radiiOf}
 use Rattle.intake.proofs.Lending.{refTo, lent-to-read, read-back}
-use Rattle.intake.proofs.NumberArrays.{F64s, blank, blanks, blank-is, numbersTy, same-typed, same-lies, array-room}
+use Rattle.intake.proofs.NumberArrays.{F64s, zeroFloat, blanks, blank-is, numbersTy, same-typed, same-lies, array-room}
 use Rattle.intake.proofs.Splitting.{splitOf}
-use Rattle.intake.proofs.SplitCall.{Split, splits-lent}
+use Rattle.intake.proofs.SplitCall.{SplitContract, splits-lent}
 use Rattle.scope.specs.Groups.{plainGrouping}
 use Rattle.clustering.specs.Answers.{grouped, shownGrouping}
 use Rattle.clustering.proofs.PlainClusters.{split-grouping, whole-grouping}
@@ -135,22 +135,22 @@ module _ {M : Type 1} (𝓤 : URA M) (H : Heap 𝓤) (A : Atoms 𝓤) (W : Given
       qed W (‵ (flft κ q) ∷ ‵ Lent ∷ ‵ Rest ∷ ‵ (R.the-row .own r (v ∷ [])) ∷ []) ∵
       suffices ! _ (ends-at 𝓤 H A thin.ended stayed (thin.clauses 𝓤 H A at-mem run) W (((κ, tt), (q, tt), tt, (x, tt), at), tt) v r (tt, tt) (tt, tt)) $ says ! e $ nothing ! $ move ! (1 ∷ 0 ∷ []) $ join ! $ frame ! $ fjoin ! $ frame ! $ done !
 
-  module _ (𝓣 : Tables 𝓤 H) (known-split : Triple 𝓤 (𝓣 .C #split) (Split 𝓤 H A at-mem run)) (known-core : Triple 𝓤 (𝓣 .C #core) (Core 𝓤 H A at-mem run)) where
+  module _ (𝓣 : Tables 𝓤 H) (known-split : Triple 𝓤 (𝓣 .C #split) (SplitContract 𝓤 H A at-mem run)) (known-core : Triple 𝓤 (𝓣 .C #core) (Core 𝓤 H A at-mem run)) where
     walk : ent 𝓤 (onEntry 𝓤 H A thin.signature (κ, tt) (q, tt) (x, tt) at) (WpFn 𝓤 H (𝓣 .C) (𝓣 .Λ) code.function (s ∷ []) Post)
     walk =
         qed W ((‵ (flft κ q) ⊛ ‵ ftrue) ∷ ‵ (owns (ShrSlice (named 0) κ T.the-row ∷ []) (x, tt) at) ∷ []) ∵ enter ! (𝓣 .C) (𝓣 .Λ) code.function (s ∷ []) _ $
         alloc1 ! (λ l₀. alloc1 ! (λ l₁. alloc1 ! (λ l₂. alloc1 ! (λ l₃. alloc1 ! (λ l₄. alloc1 ! (λ l₅. alloc1 ! (λ l₆. alloc1 ! (λ l₇. alloc1 ! (λ l₈. alloc1 ! (λ l₉. alloc1 ! (λ l₁₀. alloc1 ! (λ l₁₁. alloc1 ! (λ l₁₂. alloc0 ! $ params1 ! $
         pass1 ! (init ! 22 refl (tt, (tt, (record { fits = gn .0 }, tt)))) $ pass0 ! $
-        assigns ! (rep ! maxCircles (float-lit ! tt)) (from ! (stop !)) (init ! 20 refl (same-typed 𝓤 H A W maxCircles blank blank-is)) $
-        assigns ! (rep ! maxCircles (float-lit ! tt)) (from ! (stop !)) (init ! 18 refl (same-typed 𝓤 H A W maxCircles blank blank-is)) $
-        assigns ! (rep ! maxCircles (float-lit ! tt)) (from ! (stop !)) (init ! 16 refl (same-typed 𝓤 H A W maxCircles blank blank-is)) $
+        assigns ! (rep ! maxCircles (float-lit ! tt)) (from ! (stop !)) (init ! 20 refl (same-typed 𝓤 H A W maxCircles zeroFloat blank-is)) $
+        assigns ! (rep ! maxCircles (float-lit ! tt)) (from ! (stop !)) (init ! 18 refl (same-typed 𝓤 H A W maxCircles zeroFloat blank-is)) $
+        assigns ! (rep ! maxCircles (float-lit ! tt)) (from ! (stop !)) (init ! 16 refl (same-typed 𝓤 H A W maxCircles zeroFloat blank-is)) $
         assigns ! (of-opd ! (load ! (from ! (fld ! refl (stop !))) (look-in ! 22 (sub ! 1 refl (whole !))))) (from ! (stop !)) (init ! 14 refl (tt, record { fits = gn .0 })) $
         assigns ! (addr ! (from ! (stop !))) (from ! (stop !)) (init ! 10 refl (tt, tt)) $ assigns ! (addr ! (from ! (stop !))) (from ! (stop !)) (init ! 8 refl (tt, tt)) $ assigns ! (addr ! (from ! (stop !))) (from ! (stop !)) (init ! 6 refl (tt, tt)) $
         -- the run is shared: one part of it goes on, one stays
         move ! (27 ∷ []) $ fsplit ! $ use1 W (‵ Lent ⊛ ‵ Lent) (shr-slice-copy 𝓤 H A W (named 0) κ T.the-row .twice x (s ∷ [])) $ split ! $ move ! (29 ∷ []) $ split ! $ move ! (1 ∷ []) $ drop ! $
-        move ! (20 ∷ []) $ use1 W (‵ (partAt F64s fullShare zeros l₄ 0)) (same-lies 𝓤 H A W maxCircles blank blank-is l₄ 0) $
-        move ! (22 ∷ []) $ use1 W (‵ (partAt F64s fullShare zeros l₃ 0)) (same-lies 𝓤 H A W maxCircles blank blank-is l₃ 0) $
-        move ! (24 ∷ []) $ use1 W (‵ (partAt F64s fullShare zeros l₂ 0)) (same-lies 𝓤 H A W maxCircles blank blank-is l₂ 0) $
+        move ! (20 ∷ []) $ use1 W (‵ (partAt F64s fullShare zeros l₄ 0)) (same-lies 𝓤 H A W maxCircles zeroFloat blank-is l₄ 0) $
+        move ! (22 ∷ []) $ use1 W (‵ (partAt F64s fullShare zeros l₃ 0)) (same-lies 𝓤 H A W maxCircles zeroFloat blank-is l₃ 0) $
+        move ! (24 ∷ []) $ use1 W (‵ (partAt F64s fullShare zeros l₂ 0)) (same-lies 𝓤 H A W maxCircles zeroFloat blank-is l₂ 0) $
         move ! (5 ∷ 3 ∷ 0 ∷ 1 ∷ 2 ∷ []) $ splits-lent ! (fmOf 𝓤 H (W .laws) 𝓣) at-mem run known-split κ q x zeros zeros zeros l₂ l₃ l₄ (λ p i₀ i₁ i₂. (and-then ! (load ! (from ! (stop !)) (look ! 25 refl)) (and-then ! (load ! (from ! (stop !)) (look ! 16 refl)) (and-then ! (load ! (from ! (stop !)) (look ! 14 refl)) (and-then ! (load ! (from ! (stop !)) (look ! 12 refl)) (no-more !)))))) (λ small.
         land ! (from ! (stop !)) (init ! 18 refl (tt, record { fits = small })) $
         assigns ! (addr ! (from ! (stop !))) (from ! (stop !)) (init ! 10 refl (tt, tt)) $ assigns ! (addr ! (from ! (stop !))) (from ! (stop !)) (init ! 8 refl (tt, tt)) $ assigns ! (addr ! (from ! (stop !))) (from ! (stop !)) (init ! 6 refl (tt, tt)) $
@@ -177,7 +177,7 @@ module _ {M : Type 1} (𝓤 : URA M) (H : Heap 𝓤) (A : Atoms 𝓤) (W : Given
         by ! (exits r v (answers r e))))))))))))))))))))))))
 
 module _ {M : Type 1} (𝓤 : URA M) (H : Heap 𝓤) (A : Atoms 𝓤) (W : Given 𝓤 H A) (at-mem : Memory → SProp 𝓤) (run : Routine → Fun 𝓤) (𝓣 : Tables 𝓤 H)
-    (known-split : Triple 𝓤 (𝓣 .C #split) (Split 𝓤 H A at-mem run)) (known-core : Triple 𝓤 (𝓣 .C #core) (Core 𝓤 H A at-mem run)) where
+    (known-split : Triple 𝓤 (𝓣 .C #split) (SplitContract 𝓤 H A at-mem run)) (known-core : Triple 𝓤 (𝓣 .C #core) (Core 𝓤 H A at-mem run)) where
   thin-walks : Walks 𝓤 H A thin.ended stayed (WpFn 𝓤 H (𝓣 .C) (𝓣 .Λ) code.function) (thin.clauses 𝓤 H A at-mem run)
   thin-walks = walked 𝓤 H A thin.ended stayed (thin.clauses 𝓤 H A at-mem run) (WpFn 𝓤 H (𝓣 .C) (𝓣 .Λ) code.function) (λ κs. (slice-vals, tt)) (λ κs. (shr-slice-tells (named 0) (κs .0) T.the-row, tt))
       (λ κs qs bounds a g are. via 𝓤 _ (fst∗ 𝓤 _ (emp 𝓤)) (walk 𝓤 H A W at-mem run (κs .0) (qs .0) (a .0) (are .0 .0 .1) 𝓣 known-split known-core))
@@ -192,5 +192,5 @@ find-clusters-spec 𝓤 H 𝓜 𝓖 𝓡 =
     entered 𝓤 H (tripleOf 𝓤 H (𝓖 .A) thin.signature (thin.spec 𝓤 H (𝓖 .A) (𝓜 .mem) (𝓡 .run)))
     (tables 𝓤 H 𝓜 𝓡 code.env .C) (tables 𝓤 H 𝓜 𝓡 code.env .Λ) #call code.function (code.unfolded 𝓤 H 𝓜 𝓡)
     (thin-meets 𝓤 H (𝓖 .A) (givenOf 𝓤 H 𝓜 𝓖) (𝓜 .mem) (𝓡 .run) (tablesOf 𝓤 H 𝓜 (tables 𝓤 H 𝓜 𝓡 code.env))
-    (cited 𝓤 H (Split 𝓤 H (𝓖 .A) (𝓜 .mem) (𝓡 .run)) 𝓜 𝓡 code.env #split split-def.routine code.calls-intake·runs·split (split-thm.met 𝓤 H 𝓜 𝓖 𝓡))
+    (cited 𝓤 H (SplitContract 𝓤 H (𝓖 .A) (𝓜 .mem) (𝓡 .run)) 𝓜 𝓡 code.env #split split-def.routine code.calls-intake·runs·split (split-thm.met 𝓤 H 𝓜 𝓖 𝓡))
     (cited 𝓤 H (Core 𝓤 H (𝓖 .A) (𝓜 .mem) (𝓡 .run)) 𝓜 𝓡 code.env #core core-def.routine code.calls-clustering·clusters-at (core-thm.met 𝓤 H 𝓜 𝓖 𝓡)))

@@ -15,7 +15,7 @@ use Rattle.scope.specs.Offset.{offset}
 use Rattle.scope.specs.Gauge.{gauged}
 use Rattle.scope.specs.Promises.{units, square}
 use Rattle.promises.proofs.numbers.Ranges.{Sound}
-use Rattle.promises.proofs.gauge.Carried.{Motion, Carried, Placed, centreBound, placed-wider}
+use Rattle.promises.proofs.gauge.Carried.{Motion, Carried, StandsWithin, centreBound, stands-wider}
 use Rattle.promises.proofs.gauge.Pairs.{apartX, apartY, spread-kept}
 use Rattle.promises.proofs.gauge.AllClusters.{ClustersCarried, pair-carried, gauged-length, gauge-carries}
 use Rattle.promises.proofs.offset.AfterOffset.{offset-length, offset-keeps-radius, offset-places}
@@ -67,7 +67,7 @@ module _ (cs : List Circle) (rs : List Region) (sound : (i : ℕ) → i < length
   after-gauge-length = gauged-length numbers before count ∙ offset-length cs rs
 
   pub gauge-carries-clusters : ClustersCarried (pow2 34 + pow2 33) (pow2 87) count numbers before turned
-  gauge-carries-clusters = gauge-carries numbers before (λ i h. placed-wider small (offset-places cs rs sound i (rw (offset-length cs rs) at h))) count
+  gauge-carries-clusters = gauge-carries numbers before (λ i h. stands-wider small (offset-places cs rs sound i (rw (offset-length cs rs) at h))) count
     where
       small : centreBound ≤ pow2 82
       small = unfold pow2 in lit≤ tt
@@ -80,7 +80,7 @@ module _ (cs : List Circle) (rs : List Region) (sound : (i : ℕ) → i < length
     pub gauge-keeps-radius : (i : ℕ) → i < length cs → circle turned i .radius ≡ circle cs i .radius
     gauge-keeps-radius i h = pair i i h h refl .1 .radius ∙ offset-keeps-radius cs rs sound i h
 
-    pub gauge-places : (i : ℕ) → i < length cs → Placed (pow2 87) (circle turned i)
+    pub gauge-places : (i : ℕ) → i < length cs → StandsWithin (pow2 87) (circle turned i)
     gauge-places i h =
         let c = pair i i h h refl .1 in
         record { fin-x = c .x .fin; fin-y = c .y .fin; within-x = c .x .within; within-y = c .y .within; lifted = rw (gauge-keeps-radius i h) (sound i h .radius .lifted) }

@@ -13,7 +13,7 @@ use Rattle.scope.specs.Runs.{inTurn}
 use Rattle.scope.specs.Links.{circle}
 use Rattle.scope.specs.Gauge.{rotateCluster, inCluster, gauged}
 use Rattle.laws.proofs.Cases.{eqb-iff}
-use Rattle.promises.proofs.gauge.Carried.{Motion, Carried, Placed, Shifted, shiftedBy, shift-carries}
+use Rattle.promises.proofs.gauge.Carried.{Motion, Carried, StandsWithin, Shifted, shiftedBy, shift-carries}
 use Rattle.promises.proofs.gauge.Cluster.{AllCarried, rotate-length, rotate-leaves-others, rotate-carries}
 
 -- ---- clusters carried each by a motion of its own: two circles of one number are carried by one
@@ -65,7 +65,7 @@ module _ (numbers : List ℕ) (cs : List Circle) where
   gauged-before zero a i l h = ap (λ (c : List Circle). circle c i) gauged-none
   gauged-before (suc n) a i l h = gauged-next-other n a i h (λ e. omega arith) ∙ gauged-before n a i (omega arith) h
 
-  pub gauge-carries : ((i : ℕ) → i < length cs → Placed (pow2 82) (circle cs i)) → (count : ℕ) → ClustersCarried (pow2 34 + pow2 33) (pow2 87) count numbers cs (gauged count numbers cs)
+  pub gauge-carries : ((i : ℕ) → i < length cs → StandsWithin (pow2 82) (circle cs i)) → (count : ℕ) → ClustersCarried (pow2 34 + pow2 33) (pow2 87) count numbers cs (gauged count numbers cs)
   gauge-carries placed zero a l = absurd (omega arith)
   gauge-carries placed (suc n) a l = elim (decLt a n) [
     | yes h ↦ let r = gauge-carries placed n a h in (r .0, λ i k t. rw (gauged-next-other n a i t (λ e. omega arith)) (r .1 i k t))

@@ -45,15 +45,15 @@ pub carried-loosely : {g : Motion} {e b : ℕ} {from to : Circle} (f d : ℕ) �
 carried-loosely f d l m h = record { x = loosen f d l m (h .x); y = loosen f d l m (h .y); radius = h .radius }
 
 -- ---- a circle as it is handed in: its centre within b, its radius one that the lift keeps
-pub record Placed (b : ℕ) (c : Circle) : Type 0 where
+pub record StandsWithin (b : ℕ) (c : Circle) : Type 0 where
   pub fin-x : Fin binary64 (c .center .x)
   pub fin-y : Fin binary64 (c .center .y)
   pub within-x : Within (units (c .center .x)) b
   pub within-y : Within (units (c .center .y)) b
   pub lifted : lift (c .radius) ≡ c .radius
 
-pub placed-wider : {b d : ℕ} {c : Circle} → b ≤ d → Placed b c → Placed d c
-placed-wider {b} {d} {c} l p = record { fin-x = p .fin-x; fin-y = p .fin-y; within-x = wider (units (c .center .x)) (p .within-x); within-y = wider (units (c .center .y)) (p .within-y); lifted = p .lifted }
+pub stands-wider : {b d : ℕ} {c : Circle} → b ≤ d → StandsWithin b c → StandsWithin d c
+stands-wider {b} {d} {c} l p = record { fin-x = p .fin-x; fin-y = p .fin-y; within-x = wider (units (c .center .x)) (p .within-x); within-y = wider (units (c .center .y)) (p .within-y); lifted = p .lifted }
   where
     wider : (a : Z) → Within a b → Within a d
     wider a h = omega arith
@@ -72,7 +72,7 @@ still-near-x x y L = omega arith
 still-near-y : (x y : Z) (L : ℕ) → Near (y ⊗ nat L) (nat 0 ⊗ x ⊕ nat L ⊗ y ⊕ nat 0) (0 * L)
 still-near-y x y L = omega arith
 
-pub stays : {b : ℕ} (c : Circle) → Placed b c → Carried still 0 b c c
+pub stays : {b : ℕ} (c : Circle) → StandsWithin b c → Carried still 0 b c c
 unfolding still
 stays c p = record {
   x = record { fin = p .fin-x; within = p .within-x; near = still-near-x (units (c .center .x)) (units (c .center .y)) (pow2 60) };

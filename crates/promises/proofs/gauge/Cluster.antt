@@ -21,7 +21,7 @@ use Rattle.scope.specs.Gauge.{changed, level, turn, rotated, turned, pointBox, 
 use Rattle.laws.proofs.Cases.{and-iff, tested, is-true, is-false}
 use Rattle.laws.proofs.Runs.{length-tab, getD-tab, getD-tab-past, least-passes, least-below}
 use Rattle.promises.proofs.gauge.Turn.{turn-is-unit, not-level-some}
-use Rattle.promises.proofs.gauge.Carried.{Motion, Carried, Placed, carried-loosely, still, stays}
+use Rattle.promises.proofs.gauge.Carried.{Motion, Carried, StandsWithin, carried-loosely, still, stays}
 use Rattle.promises.proofs.gauge.Rotate.{turnAbout, rotation-carries}
 use Rattle.promises.proofs.gauge.Mirror.{applied, mirroredBy, mirrors-carry}
 use Rattle.promises.proofs.gauge.Centres.{EndsInside, union-inside, middle-inside}
@@ -62,7 +62,7 @@ module _ (member : ℕ → Bool) (f : Circle → Circle) (cs : List Circle) wher
 
 -- ---- one motion for every member
 abbrev pub AllPlaced : (ℕ → Bool) → List Circle → Type 0
-AllPlaced member cs = (i : ℕ) → i < length cs → T (member i) → Placed (pow2 82) (circle cs i)
+AllPlaced member cs = (i : ℕ) → i < length cs → T (member i) → StandsWithin (pow2 82) (circle cs i)
 
 abbrev pub AllCarried : Motion → ℕ → ℕ → (ℕ → Bool) → List Circle → List Circle → Type 0
 AllCarried g e b member from to = (i : ℕ) → i < length from → T (member i) → Carried g e b (circle from i) (circle to i)
@@ -95,7 +95,7 @@ module _ (member : ℕ → Bool) (i j : ℕ) (cs : List Circle) where
   turned-other k h = elim (tested (level dx dy)) [ yes t ↦ rw (turned-level t) | no t ↦ rw (turned-steep t) (changed-other member (rotated (turn dx dy) pivot) cs k h) ]
 
   -- the turn of two placed centres that are not level
-  module _ (P : Placed (pow2 82) (circle cs i)) (Q : Placed (pow2 82) (circle cs j)) where
+  module _ (P : StandsWithin (pow2 82) (circle cs i)) (Q : StandsWithin (pow2 82) (circle cs j)) where
     dx-fin : Fin binary64 dx
     dx-fin = sub64 29 tt (circle cs j .center .x) (circle cs i .center .x) (Q .fin-x) (P .fin-x) (omega (arith, P .within-x, Q .within-x, pow2-scale 82 1)) .fin
 

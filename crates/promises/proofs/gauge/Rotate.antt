@@ -18,7 +18,7 @@ use Rattle.scope.specs.Numbers.{_+ᶠ_, _-ᶠ_, _*ᶠ_}
 use Rattle.scope.specs.Gauge.{Turn, rotated}
 use Rattle.scope.specs.Promises.{units}
 use Rattle.promises.proofs.gauge.Axis.{Axis}
-use Rattle.promises.proofs.gauge.Carried.{Motion, Carried, Placed}
+use Rattle.promises.proofs.gauge.Carried.{Motion, Carried, StandsWithin}
 use Rattle.promises.proofs.numbers.Magnitude.{one-pos}
 use Rattle.promises.proofs.gauge.Turn.{Turned}
 
@@ -127,7 +127,7 @@ regroup-x c s x y a b L = omega arith
 regroup-y : (c s x y a b L : Z) → (s ⊗ x ⊕ c ⊗ y) ⊕ (b ⊗ L ⊖ (s ⊗ a ⊕ c ⊗ b)) ≈ b ⊗ L ⊕ ((x ⊖ a) ⊗ s ⊕ (y ⊖ b) ⊗ c)
 regroup-y c s x y a b L = omega arith
 
-pub rotation-carries : (t : Turn) (h : Turned t) (pivot c : Circle) → Placed (pow2 82) pivot → Placed (pow2 82) c → Carried (turnAbout t h (pivot .center)) (pow2 34) (pow2 85) c (rotated t (pivot .center) c)
+pub rotation-carries : (t : Turn) (h : Turned t) (pivot c : Circle) → StandsWithin (pow2 82) pivot → StandsWithin (pow2 82) c → Carried (turnAbout t h (pivot .center)) (pow2 34) (pow2 85) c (rotated t (pivot .center) c)
 unfolding turnAbout rotated sub
 rotation-carries t h pivot c P C =
     let px = pivot .center .x in

@@ -17,7 +17,7 @@ use Rattle.scope.specs.Limits.{within, coordinateOk, radiusOk}
 use Rattle.scope.specs.Promises.{units}
 use Rattle.promises.proofs.numbers.InRange.{Between, within-between, radius-between, radius-lifted}
 use Rattle.promises.proofs.numbers.Magnitude.{above-zero-sign}
-use Rattle.promises.proofs.gauge.Carried.{Placed, centreBound}
+use Rattle.promises.proofs.gauge.Carried.{StandsWithin, centreBound}
 
 -- ---- coordinates
 pub record Coordinate (x : Float) : Type 0 where
@@ -67,7 +67,7 @@ pub circle-accepted : (c : Circle) → T (fits binary64 (c .center .x)) → T (f
     → T (coordinateOk (c .center .x)) → T (coordinateOk (c .center .y)) → T (radiusOk (c .radius)) → Sound c
 circle-accepted c fx fy fr x y r = record { x = coordinate-accepted (c .center .x) fx x; y = coordinate-accepted (c .center .y) fy y; radius = radius-accepted (c .radius) fr r }
 
-pub sound-placed : (c : Circle) → Sound c → Placed centreBound c
+pub sound-placed : (c : Circle) → Sound c → StandsWithin centreBound c
 sound-placed c s = record {
   fin-x = s .x .fin;
   fin-y = s .y .fin;

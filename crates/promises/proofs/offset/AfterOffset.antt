@@ -14,7 +14,7 @@ use Rattle.scope.specs.Promises.{units, squaredDistance, ReachesWithin}
 use Rattle.laws.proofs.Cases.{tested}
 use Rattle.promises.proofs.offset.Parents.{parent-is}
 use Rattle.promises.proofs.numbers.Ranges.{Radius, Sound, sound-placed}
-use Rattle.promises.proofs.gauge.Carried.{Placed, centreBound}
+use Rattle.promises.proofs.gauge.Carried.{StandsWithin, centreBound}
 use Rattle.promises.proofs.offset.Contains.{contains-sound, contained-placed}
 use Rattle.promises.proofs.offset.Moves.{InsideParent, MovedInside, offset-moves, parent-stands}
 
@@ -31,7 +31,7 @@ module _ (parent before after : Circle) (P : Sound parent) (B : Sound before) (m
       let r = after-radius in
       contains-sound parent after (P .x .fin) (P .y .fin) (P .radius .fin) (r .fin) (m .fits-x) (m .fits-y) (P .radius .sign) (r .sign) (P .radius .small) (m .contained) .reach
 
-  moved-placed : Placed centreBound after
+  moved-placed : StandsWithin centreBound after
   moved-placed =
       let r = after-radius in
       contained-placed parent after (P .x .fin) (P .y .fin) (P .radius .fin) (r .fin) (m .fits-x) (m .fits-y) (P .radius .sign) (r .sign) (P .radius .small) (m .contained)
@@ -69,7 +69,7 @@ module _ (cs : List Circle) (rs : List Region) where
       | no t ↦ ap (λ (c : Circle). c .radius) (offset-leaves i t)
     ]
 
-    pub offset-places : (i : ℕ) → i < length cs → Placed centreBound (circle after i)
+    pub offset-places : (i : ℕ) → i < length cs → StandsWithin centreBound (circle after i)
     offset-places i h = elim (tested (bit (offset cs rs .mask) i)) [
       | yes t ↦ let m = moved i t in moved-placed (circle cs (m .parent)) (circle cs i) (circle after i) (sound (m .parent) (parent-below m)) (sound i h) (m .inside)
       | no t ↦ rw (offset-leaves i t) (sound-placed (circle cs i) (sound i h))

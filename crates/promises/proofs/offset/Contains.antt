@@ -23,7 +23,7 @@ use Rattle.scope.specs.Promises.{units, square, squaredDistance, ReachesWithin}
 use Rattle.promises.proofs.offset.Reach.{natural-square, wider-bound, reach-bounds-axes}
 use Rattle.promises.proofs.offset.Distance.{distance-not-negative, distance-finite, distance-covers}
 use Rattle.promises.proofs.numbers.Magnitude.{size-of-sum, relative-covers}
-use Rattle.promises.proofs.gauge.Carried.{Placed, centreBound}
+use Rattle.promises.proofs.gauge.Carried.{StandsWithin, centreBound}
 
 -- ---- g + r ≤ R, read backwards
 first-part-finite : (f : Format) (g r R : Float) → negative g ≡ false → T (finite r) → T (finite R) → T (le (add f g r) R) → T (finite g)
@@ -66,7 +66,7 @@ sum-below g r R fg fr fR sg sr sR wR t =
     wider : (z R P : ℕ) → z ≤ R → R ≤ pow2 80 → z + P ≤ pow2 80 + P
     wider z R P h k = omega arith
 
-pub record Contained (parent child : Circle) : Type 0 where
+pub record InsideParent (parent child : Circle) : Type 0 where
   pub fin-x : Fin binary64 (child .center .x)
   pub fin-y : Fin binary64 (child .center .y)
   pub reach : ReachesWithin (pow2 30) (units (parent .radius)) (units (child .radius)) (squaredDistance parent child)
@@ -90,7 +90,7 @@ distance-small g r R a b h l = omega arith
 module _ (parent child : Circle) (fx : Fin binary64 (parent .center .x)) (fy : Fin binary64 (parent .center .y)) (fR : Fin binary64 (parent .radius)) (fr : Fin binary64 (child .radius))
     (tx : T (fits binary64 (child .center .x))) (ty : T (fits binary64 (child .center .y))) (sR : negative (parent .radius) ≡ false) (sr : negative (child .radius) ≡ false)
     (wR : mag binary64 (parent .radius) ≤ pow2 80) (t : T (contains parent child)) where
-  pub contains-sound : Contained parent child
+  pub contains-sound : InsideParent parent child
   unfolding contains
   contains-sound =
       let p = parent .center in
@@ -119,7 +119,7 @@ module _ (parent child : Circle) (fx : Fin binary64 (parent .center .x)) (fy : F
       reach-bounds-axes (pow2 30) (units R) (units r) (units (parent .center .x) ⊖ units (child .center .x)) (units (parent .center .y) ⊖ units (child .center .y)) (pow2 80 + pow2 30) (contains-sound .reach)
       (rw (val-mag binary64 R sR, val-mag binary64 r sr) (omega arith))
 
-  pub contained-placed : Within (units (parent .center .x)) (pow2 80) → Within (units (parent .center .y)) (pow2 80) → lift (child .radius) ≡ child .radius → Placed centreBound child
+  pub contained-placed : Within (units (parent .center .x)) (pow2 80) → Within (units (parent .center .y)) (pow2 80) → lift (child .radius) ≡ child .radius → StandsWithin centreBound child
   contained-placed wx wy l = record {
     fin-x = contains-sound .fin-x;
     fin-y = contains-sound .fin-y;

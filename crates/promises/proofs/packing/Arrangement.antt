@@ -125,8 +125,8 @@ module _ {h i o s n lines B R D t : ℕ} (b : Budget h i o s n lines B R D t) {c
         fits : B ≤ centreReach h i s n lines B R
         fits = omega arith
 
-    pub arranged : Arranged i o t numbers reported cs (returned proportion count numbers cs reported)
-    arranged = elim (decLt count 2) [
+    pub packed-and-centred : Arranged i o t numbers reported cs (returned proportion count numbers cs reported)
+    packed-and-centred = elim (decLt count 2) [
       | yes one ↦ few-arranged proportion count numbers cs reported centring-room (omega (arith, b .slack)) one unpacked-inside (C .numbered)
       | no more ↦ let many : 2 ≤ count = omega arith in many-arranged proportion count numbers cs reported (packable many) centring-room (b .slack) many
     ]

@@ -76,7 +76,7 @@ unfolding sub
 difference-sign hi lo p q h = sum-sign hi (neg lo) p (neg-fin binary64 lo q) (rw (neg-val binary64 lo) (omega arith))
 
 -- ---- the box lo .. hi holds the circle x ± r up to u
-pub record Holds (u : ℕ) (lo hi x r : Z) : Type 0 where
+pub record BoxHolds (u : ℕ) (lo hi x r : Z) : Type 0 where
   pub left : lo ≼ x ⊖ r ⊕ nat u
   pub right : x ⊕ r ≼ hi ⊕ nat u
 
@@ -115,11 +115,11 @@ module _ {axis : Point → Float} {cs : List Circle} {member : ℕ → Bool} {lo
     pub low-bounded : Bounded X lo
     low-bounded = attained-has (Bounded X) (low-extreme .attained) (λ a la u. low-at-bounded a la)
 
-    pub box-holds : Holds (pow2 i) (units lo) (units hi) (units (at axis cs j)) (units (circle cs j .radius))
+    pub box-holds : BoxHolds (pow2 i) (units lo) (units hi) (units (at axis cs j)) (units (circle cs j .radius))
     box-holds = ends-hold (units lo) (units hi) (units (at axis cs j)) (units (circle cs j .radius)) (units (lowAt axis cs j)) (units (highAt axis cs j)) (near-of (low-close j l .near)) (near-of (high-close j l .near))
         (low-extreme .bounds j l m) (high-extreme .bounds j l m)
       where
-        ends-hold : (lo hi x r a b : Z) → Near a (x ⊖ r) (pow2 i) → Near b (x ⊕ r) (pow2 i) → lo ≼ a → b ≼ hi → Holds (pow2 i) lo hi x r
+        ends-hold : (lo hi x r a b : Z) → Near a (x ⊖ r) (pow2 i) → Near b (x ⊕ r) (pow2 i) → lo ≼ a → b ≼ hi → BoxHolds (pow2 i) lo hi x r
         ends-hold lo hi x r a b h k m n = omega arith
 
     -- each end is that of a member, up to one rounding
@@ -154,5 +154,5 @@ module _ {axis : Point → Float} {cs : List Circle} {member : ℕ → Bool} {lo
       pub side-upto : (S : ℕ) → nat (pow2 i) ≺ units (circle cs j .radius) → Within (units (sub binary64 hi lo)) S → Upto S (sub binary64 hi lo)
       side-upto S h w = record { fin = side-close .fin; sign = difference-sign hi lo (high-bounded .fin) (low-bounded .fin) (apart (units lo) (units hi) (units (at axis cs j)) (units (circle cs j .radius)) box-holds h); within = w }
         where
-          apart : (lo hi x r : Z) → Holds (pow2 i) lo hi x r → nat (pow2 i) ≺ r → lo ≺ hi
+          apart : (lo hi x r : Z) → BoxHolds (pow2 i) lo hi x r → nat (pow2 i) ≺ r → lo ≺ hi
           apart lo hi x r h k = omega arith

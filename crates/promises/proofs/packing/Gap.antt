@@ -15,7 +15,7 @@ use Rattle.scope.specs.Packing.{centred}
 use Rattle.scope.specs.Promises.{units}
 use Rattle.promises.proofs.numbers.Bounded.{Bounded, half-is, middle-is, near-of, pow2-positive}
 use Rattle.promises.proofs.packing.Shift.{ShiftedBy, IsSum, shifted-is-sum}
-use Rattle.promises.proofs.packing.BoxSides.{Holds}
+use Rattle.promises.proofs.packing.BoxSides.{BoxHolds}
 
 -- ---- Q bounds the starts of lines, M the widths and sides, X the ends of the boxes and the centres
 pub record Room (h i Q M X : ℕ) : Type 0 where
@@ -75,7 +75,7 @@ module _ {h i Q M X : ℕ} (room : Room h i Q M X) where
     pub centre-bounded : Bounded X x
     pub side : Near (units s) (units hi ⊖ units lo) (pow2 h)
     pub wide : units s ⊕ pad ≼ units b ⊕ nat (pow2 h)
-    pub holds : Holds (pow2 h) (units lo) (units hi) (units x) (units r)
+    pub holds : BoxHolds (pow2 h) (units lo) (units hi) (units x) (units r)
 
   -- its shift: to the cell's middle, from the box's
   abbrev pub shiftTo : Float → Float → Float → Float → Float → Float

@@ -134,8 +134,8 @@ module _ {i o Y R X s t : ℕ} (room : CentringRoom i o Y R X) (slack : s + 2 * 
       (⊎-elim (λ g. inr (kept-above o s t slack pad K axis (circle mid j) (circle mid m) a b (sums j l) (sums m n) (out-radius j l) (out-radius m n) g))
       (λ g. inl (kept-above o s t slack pad K axis (circle mid m) (circle mid j) b a (sums m n) (sums j l) (out-radius m n) (out-radius j l) g)) h)
 
-  pub arranged : Arranged i o t numbers pad cs out
-  arranged = record {
+  pub packed-and-centred : Arranged i o t numbers pad cs out
+  packed-and-centred = record {
     clusterX = S .clusterX;
     clusterY = S .clusterY;
     layoutX = layoutX;
@@ -204,7 +204,7 @@ module _ (proportion : Float) (count : ℕ) (numbers : List ℕ) (cs : List Circ
       → Arranged i o t numbers pad cs returned
   few-arranged {i} {o} {Y} {R} {X} {t} room slack few circles numbered =
       subst (λ (mid : List Circle). Arranged i o t numbers pad cs (centredLayout mid)) (sym (few-not-packed proportion numbers (boxes count numbers cs) pad cs (rw (boxes-length count numbers cs) few)))
-      (arranged room (bound slack) (unshifted i Y R 0 (omega (arith, room .ends-fit, room .positions)) numbers pad cs circles (λ j l. omega (arith, numbered j l))))
+      (packed-and-centred room (bound slack) (unshifted i Y R 0 (omega (arith, room .ends-fit, room .positions)) numbers pad cs circles (λ j l. omega (arith, numbered j l))))
     where
       bound : 2 * pow2 o ≤ t → 0 + 2 * pow2 o ≤ t
       bound h = omega arith
@@ -213,4 +213,4 @@ module _ (proportion : Float) (count : ℕ) (numbers : List ℕ) (cs : List Circ
       → Arranged i o t numbers pad cs returned
   many-arranged {i = i} {o = o} {t = t} A room slack many =
       subst (λ (mid : List Circle). Arranged i o t numbers pad cs (centredLayout mid)) (sym (many-packed proportion numbers (boxes count numbers cs) pad cs (rw (boxes-length count numbers cs) many)))
-      (arranged room slack (packed-stage A))
+      (packed-and-centred room slack (packed-stage A))

@@ -25,7 +25,7 @@ use Rattle.promises.proofs.packing.Columns.{GridFits, grid-wider, golde
 use Rattle.promises.proofs.packing.Proportions.{Proportion, grid-fits-64}
 use Rattle.promises.proofs.packing.ClusterBoxes.{Clustered}
 use Rattle.promises.proofs.packing.Returned.{Arranged, returned}
-use Rattle.promises.proofs.packing.Arrangement.{Budget, arranged, width-is-upto, height-is-upto, padding-bounded, padding-not-negative}
+use Rattle.promises.proofs.packing.Arrangement.{Budget, packed-and-centred, width-is-upto, height-is-upto, padding-bounded, padding-not-negative}
 
 -- how far apart the centres of one cluster are on an axis, in units: (23/4) 2^20 and 2^-16
 abbrev pub spread64 : ℕ
@@ -105,7 +105,7 @@ module _ {g : Clusters} {cs : List Circle} (G : Gauged64 g cs) where
     -- any proportion whose grid has at most 16 columns and rows
     pub arranged-64 : (proportion : Float) → (2 ≤ g .count → GridFits 16 (g .count) (columns (g .count) proportion))
         → Arranged 37 38 gapBound (g .numbers) pad cs (returned proportion (g .count) (g .numbers) cs pad)
-    arranged-64 proportion grid = arranged budget64 clustered few-clusters factor (factor-bounded factor fit ok) proportion grid
+    arranged-64 proportion grid = packed-and-centred budget64 clustered few-clusters factor (factor-bounded factor fit ok) proportion grid
 
     -- any from 1/4 to 4
     pub proportion-arranged-64 : (proportion : Float) → Proportion proportion → Arranged 37 38 gapBound (g .numbers) pad cs (returned proportion (g .count) (g .numbers) cs pad)

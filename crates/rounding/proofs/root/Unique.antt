@@ -75,7 +75,7 @@ rnd-only p n den q d P D H e k even =
     regroup x q d v n h = omega arith
 
 -- ---- of the root. z is q * 2 ^ i units and the root has prec + i digits or, where i is 0, fewer; c and 2 * mag z + 2 ^ i are the half-way points around z, in half units
-pub record Placed (f : Format) (n k : ℕ) (z : Float) (q i c : ℕ) : Type 0 where
+pub record BetweenHalfWays (f : Format) (n k : ℕ) (z : Float) (q i c : ℕ) : Type 0 where
   pub fin : Fin f z
   pub sign : negative z ≡ false
   pub size : mag f z ≡ q * 2 ^ i
@@ -112,7 +112,7 @@ module _ (f : Format) (n k : ℕ) where
   unfolding num
   fraction-eq c h = le-antisymm (square-le-root f n k c (le-of-eq (sym h))) (root-le-square f n k c (le-of-eq h))
 
-  module _ (z : Float) (q i c : ℕ) (placed : Placed f n k z q i c) where
+  module _ (z : Float) (q i c : ℕ) (placed : BetweenHalfWays f n k z q i c) where
     near : Half (q * (scaleOf f k * 2 ^ i)) num (scaleOf f k * 2 ^ i)
     unfolding num
     near = around c q (mag f z) (2 ^ i) (scaleOf f k) num (placed .half-way) (placed .size) (scaled-le-fraction f n k c (placed .below)) (fraction-le-scaled f n k (2 * mag f z + 2 ^ i) (placed .above))

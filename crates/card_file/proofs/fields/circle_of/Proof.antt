@@ -1,6 +1,6 @@
 -- `circle_of` meets its contract.
 use borrow.Author.Needs.{needs}
-use Rattle.scope.specs.CardFile.{circleOf}
+use Rattle.scope.specs.CardFile.{circleFrom}
 use Rattle.card_file.proofs.fields.circle_of.Statement.{statement}
 use Rattle.card_file.proofs.fields.circle_of.Tie as tie
 
@@ -23,7 +23,7 @@ float-of-requires-3 : tie.Need-float-of-requires-3
 float-of-requires-3 c κs = search needs
 
 returns : tie.Need-returns
-unfolding circleOf
+unfolding circleFrom
 returns c =
     let y = c .before .before in
     let x = y .before .before in

@@ -8,13 +8,13 @@ use lib.ListN.{length, getD, length-set}
 use lib.Ieee.{inf, neg, div, ofBits}
 use Rattle.rounding.specs.Extremes.{minimum, maximum}
 use Rattle.layout.specs.Ranges.{lowEnd, highEnd}
-use Rattle.layout.specs.ClusterBoxes.{Numbered}
+use Rattle.layout.specs.ClusterBoxes.{InClusters}
 use Rattle.layout.proofs.ClusterBoxes.{endsAfter, ends-at-first, ends-next}
 use Rattle.layout.proofs.boxes.cluster_ranges.Statement.{statement}
 use Rattle.layout.proofs.boxes.cluster_ranges.Tie as tie
 
 abbrev Inv-loop : tie.InvT-loop
-Inv-loop coords radii numbers lows₀ highs₀ infinity i₀ lows highs i = (i ≤ length coords) × (length radii ≡ length coords) × (length numbers ≡ length coords) × Numbered (length lows₀) numbers × (length highs₀ ≡ length lows₀) × (length lows ≡ length lows₀) × (length highs ≡ length lows₀) × (lows ≡ endsAfter minimum (inf false) numbers (length lows₀) (lowEnd coords radii) i) × (highs ≡ endsAfter maximum (inf true) numbers (length lows₀) (highEnd coords radii) i)
+Inv-loop coords radii numbers lows₀ highs₀ infinity i₀ lows highs i = (i ≤ length coords) × (length radii ≡ length coords) × (length numbers ≡ length coords) × InClusters (length lows₀) numbers × (length highs₀ ≡ length lows₀) × (length lows ≡ length lows₀) × (length highs ≡ length lows₀) × (lows ≡ endsAfter minimum (inf false) numbers (length lows₀) (lowEnd coords radii) i) × (highs ≡ endsAfter maximum (inf true) numbers (length lows₀) (highEnd coords radii) i)
 
 abbrev μ-loop : tie.MeasureT-loop
 μ-loop coords radii numbers lows₀ highs₀ infinity i₀ lows highs i = length coords - i

@@ -8,12 +8,12 @@ use Rattle.scope.specs.Numbers.{_+ᶠ_, _-ᶠ_}
 use Rattle.intake.specs.Columns.{at}
 use Rattle.intake.proofs.Columns.{whole-rewritten}
 use Rattle.intake.proofs.InPlace.{so-far, none-rewritten, one-rewritten}
-use Rattle.layout.specs.ClusterBoxes.{Numbered}
+use Rattle.layout.specs.ClusterBoxes.{InClusters}
 use Rattle.layout.proofs.boxes.shift.Statement.{statement}
 use Rattle.layout.proofs.boxes.shift.Tie as tie
 
 abbrev Inv-loop : tie.InvT-loop
-Inv-loop coords₀ numbers olds news i₀ coords i = (i ≤ length coords₀) × (length numbers ≡ length coords₀) × (length news ≡ length olds) × Numbered (length olds) numbers × (length coords ≡ length coords₀) × (coords ≡ so-far (λ k x. x +ᶠ (at news (getD numbers k 0) -ᶠ at olds (getD numbers k 0))) nan i coords₀)
+Inv-loop coords₀ numbers olds news i₀ coords i = (i ≤ length coords₀) × (length numbers ≡ length coords₀) × (length news ≡ length olds) × InClusters (length olds) numbers × (length coords ≡ length coords₀) × (coords ≡ so-far (λ k x. x +ᶠ (at news (getD numbers k 0) -ᶠ at olds (getD numbers k 0))) nan i coords₀)
 
 abbrev μ-loop : tie.MeasureT-loop
 μ-loop coords₀ numbers olds news i₀ coords i = length coords₀ - i

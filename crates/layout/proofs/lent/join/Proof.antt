@@ -49,7 +49,7 @@ use denote.Triple.Table.{entered}
 use denote.Triple.Walked.{says, needs, Stays, stay-slice, stay-none-ref, stay-none, walkOf, Walks, ends-at, walked, goes-slice, goes-none-ref, goes-none, walk-meets}
 use denote.Exit.{yes}
 use borrow.Author.Tests.{lt-ltb, le-ltb}
-use Rattle.shapes.specs.Records.{pointAt}
+use Rattle.shapes.specs.Records.{pointAt, circleOf}
 use Rattle.shapes.specs.declared.circle.Circle.{Circle}
 use Rattle.shapes.proofs.circle.Circle as T
 use Rattle.shapes.proofs.circle.Circle.Laws as T′
@@ -57,7 +57,7 @@ use Rattle.shapes.proofs.point.Point as P
 use Rattle.shapes.proofs.point.Point.Laws as P′
 use Rattle.scope.specs.Links.{nowhere}
 use Rattle.intake.specs.Limits.{maxCircles}
-use Rattle.intake.specs.Columns.{circleOf, at as at-place}
+use Rattle.intake.specs.Columns.{at as at-place}
 use Rattle.intake.proofs.Lending.{refTo}
 use Rattle.intake.proofs.NumberArrays.{IsF, F64s, numbersTy, looks-array, shuts-array}
 use Rattle.layout.specs.Recentred.{recentred}

@@ -53,10 +53,10 @@ use Rattle.layout.specs.Recentred.{recentred, writtenOf}
 use Rattle.layout.specs.Laid.{Laid, Lays}
 use Rattle.layout.specs.declared.normalize.Result.{Result}
 use Rattle.intake.proofs.Lending.{refTo, lent-to-write, written-back, lent-to-read, read-back}
-use Rattle.intake.proofs.NumberArrays.{F64s, blank, blanks, blank-is, numbersTy, same-typed, same-lies, array-room}
+use Rattle.intake.proofs.NumberArrays.{F64s, zeroFloat, blanks, blank-is, numbersTy, same-typed, same-lies, array-room}
 use Rattle.intake.proofs.Splitting.{splitOf}
-use Rattle.intake.proofs.SplitCall.{Split, splits}
-use Rattle.layout.proofs.JoinCall.{Join, Written, joins, counts}
+use Rattle.intake.proofs.SplitCall.{SplitContract, splits}
+use Rattle.layout.proofs.JoinCall.{JoinContract, WrittenContract, joins, counts}
 use Rattle.layout.proofs.RunCalls.{laid-fits, laid-lays}
 use Rattle.layout.proofs.normalize.Result as R
 use Rattle.layout.proofs.normalize.Result.Laws as R′
@@ -198,25 +198,25 @@ module _ {M : Type 1} (𝓤 : URA M) (H : Heap 𝓤) (A : Atoms 𝓤) (W : Given
   typed : (r : Result) (v : Val) → Is R.the-row r (v ∷ []) → Holds (hasTy R′.mir v) × WT v
   typed r v is = LL.lawful R.the-type R′.the-laws 𝓤 H A W .typed r _ is .0
 
-  module _ (𝓣 : Tables 𝓤 H) (known-split : Triple 𝓤 (𝓣 .C #split) (Split 𝓤 H A at-mem run)) (known-core : Triple 𝓤 (𝓣 .C #core) (Core 𝓤 H A at-mem run))
-      (known-written : Triple 𝓤 (𝓣 .C #written) (Written 𝓤 H A at-mem run)) (known-join : Triple 𝓤 (𝓣 .C #join) (Join 𝓤 H A at-mem run)) where
+  module _ (𝓣 : Tables 𝓤 H) (known-split : Triple 𝓤 (𝓣 .C #split) (SplitContract 𝓤 H A at-mem run)) (known-core : Triple 𝓤 (𝓣 .C #core) (Core 𝓤 H A at-mem run))
+      (known-written : Triple 𝓤 (𝓣 .C #written) (WrittenContract 𝓤 H A at-mem run)) (known-join : Triple 𝓤 (𝓣 .C #join) (JoinContract 𝓤 H A at-mem run)) where
     walk : ent 𝓤 (onEntry 𝓤 H A thin.signature (κ, (κm, (κa, tt))) (q, (qm, (qa, tt))) (refTo b o γ ys, (factor, (xm, (xa, tt)))) at) (WpFn 𝓤 H (𝓣 .C) (𝓣 .Λ) code.function (s ∷ vfloat binary64 factor ∷ sm ∷ sa ∷ []) Post)
     walk =
         qed W ((‵ (flft κ q) ⊛ toks) ∷ ‵ (fsep (MutSlice (named 0) κ T.the-row .own (refTo b o γ ys) (s ∷ [])) Rest) ∷ []) ∵ enter ! (𝓣 .C) (𝓣 .Λ) code.function (s ∷ vfloat binary64 factor ∷ sm ∷ sa ∷ []) _ $
         alloc1 ! (λ l₀. alloc1 ! (λ l₁. alloc1 ! (λ l₂. alloc1 ! (λ l₃. alloc1 ! (λ l₄. alloc1 ! (λ l₅. alloc1 ! (λ l₆. alloc1 ! (λ l₇. alloc1 ! (λ l₈. alloc1 ! (λ l₉. alloc1 ! (λ l₁₀. alloc1 ! (λ l₁₁. alloc1 ! (λ l₁₂. alloc1 ! (λ l₁₃. alloc1 ! (λ l₁₄. alloc1 ! (λ l₁₅. alloc1 ! (λ l₁₆. alloc1 ! (λ l₁₇. alloc1 ! (λ l₁₈. alloc1 ! (λ l₁₉. alloc1 ! (λ l₂₀. alloc1 ! (λ l₂₁. alloc1 ! (λ l₂₂. alloc1 ! (λ l₂₃. alloc1 ! (λ l₂₄. alloc0 ! $ params1 ! $
         pass1 ! (init ! 46 refl (tt, (tt, (record { fits = gn .0 }, tt)))) $ pass1 ! (init ! 44 refl (float-lawful 𝓤 H A W binary64 .typed factor _ gf .0)) $ pass1 ! (init ! 42 refl (tt, (tt, (record { fits = gm .0 }, tt)))) $ pass1 ! (init ! 40 refl (tt, (tt, (record { fits = ga .0 }, tt)))) $ pass0 ! $
-        assigns ! (rep ! maxCircles (float-lit ! tt)) (from ! (stop !)) (init ! 38 refl (same-typed 𝓤 H A W maxCircles blank blank-is)) $
-        assigns ! (rep ! maxCircles (float-lit ! tt)) (from ! (stop !)) (init ! 36 refl (same-typed 𝓤 H A W maxCircles blank blank-is)) $
-        assigns ! (rep ! maxCircles (float-lit ! tt)) (from ! (stop !)) (init ! 34 refl (same-typed 𝓤 H A W maxCircles blank blank-is)) $
+        assigns ! (rep ! maxCircles (float-lit ! tt)) (from ! (stop !)) (init ! 38 refl (same-typed 𝓤 H A W maxCircles zeroFloat blank-is)) $
+        assigns ! (rep ! maxCircles (float-lit ! tt)) (from ! (stop !)) (init ! 36 refl (same-typed 𝓤 H A W maxCircles zeroFloat blank-is)) $
+        assigns ! (rep ! maxCircles (float-lit ! tt)) (from ! (stop !)) (init ! 34 refl (same-typed 𝓤 H A W maxCircles zeroFloat blank-is)) $
         assigns ! (of-opd ! (load ! (from ! (fld ! refl (stop !))) (look-in ! 46 (sub ! 1 refl (whole !))))) (from ! (stop !)) (init ! 32 refl (tt, record { fits = gn .0 })) $
         assigns ! (addr ! (from ! (fld ! refl (hop ! (look-in ! 46 (sub ! 0 refl (whole !))) (stop !))))) (from ! (stop !)) (init ! 26 refl (tt, tt)) $
         assigns ! (agg ! (and-then ! (load ! (from ! (stop !)) (look ! 26 refl)) (and-then ! (load ! (from ! (fld ! refl (stop !))) (look-in ! 46 (sub ! 1 refl (whole !)))) (no-more !)))) (from ! (stop !)) (init ! 24 refl (tt, (tt, (record { fits = gn .0 }, tt)))) $
         assigns ! (addr ! (from ! (stop !))) (from ! (stop !)) (init ! 22 refl (tt, tt)) $ assigns ! (addr ! (from ! (stop !))) (from ! (stop !)) (init ! 20 refl (tt, tt)) $ assigns ! (addr ! (from ! (stop !))) (from ! (stop !)) (init ! 18 refl (tt, tt)) $
         -- the borrow of the run is opened, and the arrays are what is lent
         move ! (51 ∷ []) $ fsplit ! $ fsplit ! $ move ! (1 ∷ []) $ fsplit ! $ move ! (54 ∷ []) $ split ! $ move ! (2 ∷ 3 ∷ 0 ∷ []) $ opens-slice ! tt T.the-row ys b o $
-        move ! (41 ∷ []) $ use1 W (‵ (partAt F64s fullShare zeros l₇ 0)) (same-lies 𝓤 H A W maxCircles blank blank-is l₇ 0) $
-        move ! (43 ∷ []) $ use1 W (‵ (partAt F64s fullShare zeros l₆ 0)) (same-lies 𝓤 H A W maxCircles blank blank-is l₆ 0) $
-        move ! (45 ∷ []) $ use1 W (‵ (partAt F64s fullShare zeros l₅ 0)) (same-lies 𝓤 H A W maxCircles blank blank-is l₅ 0) $
+        move ! (41 ∷ []) $ use1 W (‵ (partAt F64s fullShare zeros l₇ 0)) (same-lies 𝓤 H A W maxCircles zeroFloat blank-is l₇ 0) $
+        move ! (43 ∷ []) $ use1 W (‵ (partAt F64s fullShare zeros l₆ 0)) (same-lies 𝓤 H A W maxCircles zeroFloat blank-is l₆ 0) $
+        move ! (45 ∷ []) $ use1 W (‵ (partAt F64s fullShare zeros l₅ 0)) (same-lies 𝓤 H A W maxCircles zeroFloat blank-is l₅ 0) $
         move ! (3 ∷ 0 ∷ 1 ∷ 2 ∷ []) $
         splits ! (fmOf 𝓤 H (W .laws) 𝓣) at-mem run known-split ys zeros zeros zeros b o l₅ l₆ l₇ gn (λ p i₀ i₁ i₂ i₃. (and-then ! (load ! (from ! (stop !)) (look ! 35 refl)) (and-then ! (load ! (from ! (stop !)) (look ! 33 refl)) (and-then ! (load ! (from ! (stop !)) (look ! 31 refl)) (and-then ! (load ! (from ! (stop !)) (look ! 29 refl)) (no-more !)))))) (λ small.
         land ! (from ! (stop !)) (init ! 38 refl (tt, record { fits = small })) $
@@ -255,8 +255,8 @@ module _ {M : Type 1} (𝓤 : URA M) (H : Heap 𝓤) (A : Atoms 𝓤) (W : Given
         by ! (exits zs long r (lays-of r (ws .0) (ws .1 .0) zs e said) (is-mach r v is))))))))))))))))))))))))))))))))))))))
 
 module _ {M : Type 1} (𝓤 : URA M) (H : Heap 𝓤) (A : Atoms 𝓤) (W : Given 𝓤 H A) (at-mem : Memory → SProp 𝓤) (run : Routine → Fun 𝓤) (𝓣 : Tables 𝓤 H)
-    (known-split : Triple 𝓤 (𝓣 .C #split) (Split 𝓤 H A at-mem run)) (known-core : Triple 𝓤 (𝓣 .C #core) (Core 𝓤 H A at-mem run))
-    (known-written : Triple 𝓤 (𝓣 .C #written) (Written 𝓤 H A at-mem run)) (known-join : Triple 𝓤 (𝓣 .C #join) (Join 𝓤 H A at-mem run)) where
+    (known-split : Triple 𝓤 (𝓣 .C #split) (SplitContract 𝓤 H A at-mem run)) (known-core : Triple 𝓤 (𝓣 .C #core) (Core 𝓤 H A at-mem run))
+    (known-written : Triple 𝓤 (𝓣 .C #written) (WrittenContract 𝓤 H A at-mem run)) (known-join : Triple 𝓤 (𝓣 .C #join) (JoinContract 𝓤 H A at-mem run)) where
   thin-walks : Walks 𝓤 H A thin.ended stayed (WpFn 𝓤 H (𝓣 .C) (𝓣 .Λ) code.function) (thin.clauses 𝓤 H A at-mem run)
   thin-walks = walked 𝓤 H A thin.ended stayed (thin.clauses 𝓤 H A at-mem run) (WpFn 𝓤 H (𝓣 .C) (𝓣 .Λ) code.function)
       (λ κs. (slice-vals, (float-vals binary64, (slice-vals, (slice-vals, tt)))))
@@ -276,7 +276,7 @@ normalize-layout-with-clusters-spec 𝓤 H 𝓜 𝓖 𝓡 =
     entered 𝓤 H (tripleOf 𝓤 H (𝓖 .A) thin.signature (thin.spec 𝓤 H (𝓖 .A) (𝓜 .mem) (𝓡 .run)))
     (tables 𝓤 H 𝓜 𝓡 code.env .C) (tables 𝓤 H 𝓜 𝓡 code.env .Λ) #call code.function (code.unfolded 𝓤 H 𝓜 𝓡)
     (thin-meets 𝓤 H (𝓖 .A) (givenOf 𝓤 H 𝓜 𝓖) (𝓜 .mem) (𝓡 .run) (tablesOf 𝓤 H 𝓜 (tables 𝓤 H 𝓜 𝓡 code.env))
-    (cited 𝓤 H (Split 𝓤 H (𝓖 .A) (𝓜 .mem) (𝓡 .run)) 𝓜 𝓡 code.env #split split-def.routine code.calls-intake·runs·split (split-thm.met 𝓤 H 𝓜 𝓖 𝓡))
+    (cited 𝓤 H (SplitContract 𝓤 H (𝓖 .A) (𝓜 .mem) (𝓡 .run)) 𝓜 𝓡 code.env #split split-def.routine code.calls-intake·runs·split (split-thm.met 𝓤 H 𝓜 𝓖 𝓡))
     (cited 𝓤 H (Core 𝓤 H (𝓖 .A) (𝓜 .mem) (𝓡 .run)) 𝓜 𝓡 code.env #core core-def.routine code.calls-layout·normalize·laid (core-thm.met 𝓤 H 𝓜 𝓖 𝓡))
-    (cited 𝓤 H (Written 𝓤 H (𝓖 .A) (𝓜 .mem) (𝓡 .run)) 𝓜 𝓡 code.env #written written-def.routine code.calls-layout·lent·written (written-thm.met 𝓤 H 𝓜 𝓖 𝓡))
-    (cited 𝓤 H (Join 𝓤 H (𝓖 .A) (𝓜 .mem) (𝓡 .run)) 𝓜 𝓡 code.env #join join-def.routine code.calls-layout·lent·join (join-thm.met 𝓤 H 𝓜 𝓖 𝓡)))
+    (cited 𝓤 H (WrittenContract 𝓤 H (𝓖 .A) (𝓜 .mem) (𝓡 .run)) 𝓜 𝓡 code.env #written written-def.routine code.calls-layout·lent·written (written-thm.met 𝓤 H 𝓜 𝓖 𝓡))
+    (cited 𝓤 H (JoinContract 𝓤 H (𝓖 .A) (𝓜 .mem) (𝓡 .run)) 𝓜 𝓡 code.env #join join-def.routine code.calls-layout·lent·join (join-thm.met 𝓤 H 𝓜 𝓖 𝓡)))

@@ -2,7 +2,7 @@
 use mathlib.Core.Path.{refl, ap, _∙_}
 use borrow.Author.Needs.{needs}
 use Rattle.scope.specs.Links.{regions}
-use Rattle.scope.specs.Offset.{Moved as Step}
+use Rattle.scope.specs.Offset.{Moved}
 use Rattle.intake.specs.Columns.{circlesOf}
 use Rattle.intake.proofs.Columns.{length-shown}
 use Rattle.layout.proofs.OffsetMoves.{offset-few, offset-none}
@@ -13,7 +13,7 @@ returns : tie.Need-returns
 returns c =
     let a = c .before .before .before .before .before .before .before .args in
     let same = offset-few (circlesOf (a .xs .now) (a .ys .now) (a .radii .now)) _ (rw (length-shown (a .xs .now) (a .ys .now) (a .radii .now)) (c .if1 .taken)) in
-    (ap (λ (s : Step). s .circles) same, (ap (λ (s : Step). s .mask) same, (refl, refl)))
+    (ap (λ (s : Moved). s .circles) same, (ap (λ (s : Moved). s .mask) same, (refl, refl)))
 
 find-parents-requires : tie.Need-find-parents-requires
 find-parents-requires c κs = search needs
@@ -38,7 +38,7 @@ returns-2 c =
     let f = c .before .before .before .before .before .before .before .before .before .before .before .find-parents in
     let r = c .before .before .before .before .before .before .before .before .before .before .before .before .before .before .before .before .before .before .before .before in
     let same = t .ensures _ (rw (r .pre .2) at (f .ensures .0)) in
-    (ap (λ (s : Step). s .circles) same, (ap (λ (s : Step). s .mask) same, (t .kept .0, t .kept .1 .0)))
+    (ap (λ (s : Moved). s .circles) same, (ap (λ (s : Moved). s .mask) same, (t .kept .0, t .kept .1 .0)))
 
 same-length-4 : tie.Need-same-length-4
 same-length-4 c = search needs
@@ -51,7 +51,7 @@ returns-3 c =
     let shown = length-shown (a .xs .now) (a .ys .now) (a .radii .now) in
     let many = c .before .before .before .before .before .if1 .left in
     let same = offset-none (circlesOf (a .xs .now) (a .ys .now) (a .radii .now)) (regions (a .masks .now) (a .areas .now)) (rw shown many) (f .last .1 .1 .1 .0) (rw (shown, ← r .pre .2) (f .ensures .0)) (rw (shown, ← r .pre .2) (f .ensures .1 (c .if2 .left))) in
-    (ap (λ (s : Step). s .circles) same, (ap (λ (s : Step). s .mask) same, (refl, refl)))
+    (ap (λ (s : Moved). s .circles) same, (ap (λ (s : Moved). s .mask) same, (refl, refl)))
 
 pub offset-contained-children-spec : {M : Type 1} → statement M
 offset-contained-children-spec =

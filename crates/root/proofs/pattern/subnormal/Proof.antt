@@ -1,11 +1,11 @@
 -- `root::pattern::subnormal` meets its contract: each turn doubles the digits and takes one from the exponent.
 use native.Mathlib.Omega.{arith}
-use Rattle.root.proofs.ScaleLaws.{Shifted, exponent-left, shift, shifted-is-normal}
+use Rattle.root.proofs.ScaleLaws.{Doubled, exponent-left, shift, shifted-is-normal}
 use Rattle.root.proofs.pattern.subnormal.Statement.{statement}
 use Rattle.root.proofs.pattern.subnormal.Tie as tie
 
 abbrev Inv-loop : tie.InvT-loop
-Inv-loop b digits₀ exponent₀ digits exponent = Shifted b digits exponent
+Inv-loop b digits₀ exponent₀ digits exponent = Doubled b digits exponent
 
 abbrev μ-loop : tie.MeasureT-loop
 μ-loop b digits₀ exponent₀ digits exponent = exponent
