@@ -16,18 +16,14 @@ use Rattle.scope.specs.Groups.{Clusters, plainClusters, Grouping, grouping, pla
 use Rattle.laws.proofs.AfterRefusal.{refusedGrouping}
 use Rattle.intake.specs.Columns.{xsOf, ysOf, radiiOf, overwritten}
 use Rattle.intake.specs.CauseWords.{front, circleChecks}
-use Rattle.intake.proofs.Checking.{few}
-use Rattle.intake.proofs.Columns.{length-shown}
-use Rattle.intake.proofs.Splitting.{front-shown}
+use Rattle.intake.specs.Limits.{maxCircles}
+use Rattle.intake.proofs.Counted.{by-many, chosen, none-counted, at-once, counted-number}
+use Rattle.intake.proofs.Splitting.{front-shown, few-in-front}
 use Rattle.clustering.specs.Answers.{countedGrouping}
 
 -- the number that comes back
 abbrev pub countedRefusal : ℕ → List Circle → ℕ
 countedRefusal n cs = cond (tooMany n) 1 (circlesRefusal cs)
-
-by-count : (b : Bool) (k : ℕ) (g : Clusters) → cond b (grouping 1 g) (grouping k g) ≡ grouping (cond b 1 k) g
-by-count true k g = refl
-by-count false k g = refl
 
 refused-by : (k : ℕ) (g : Clusters) → k ≢ 0 → grouping k g ≡ refusedGrouping k
 unfolding grouping
@@ -37,7 +33,7 @@ refused-by (suc k) g h = refl
 module _ (n : ℕ) (cs : List Circle) where
   answered : countedGrouping n cs ≡ grouping (countedRefusal n cs) (plainClusters cs)
   unfolding countedGrouping plainGrouping
-  answered = by-count (tooMany n) (circlesRefusal cs) (plainClusters cs)
+  answered = sym (chosen (λ (k : ℕ). grouping k (plainClusters cs)) (tooMany n) 1 (circlesRefusal cs))
 
   pub counted-refused : countedRefusal n cs ≢ 0 → countedGrouping n cs ≡ refusedGrouping (countedRefusal n cs)
   counted-refused h = answered ∙ refused-by (countedRefusal n cs) (plainClusters cs) h
@@ -45,38 +41,18 @@ module _ (n : ℕ) (cs : List Circle) where
   pub counted-accepted : countedRefusal n cs ≡ 0 → grouping 0 (plainClusters cs) ≡ countedGrouping n cs
   counted-accepted h = sym (answered ∙ rw h)
 
-  pub counted-few : countedRefusal n cs ≡ 0 → n ≤ circleCap
-  counted-few h = by-test (tooMany n) refl h
-    where
-      by-test : (b : Bool) → tooMany n ≡ b → cond b 1 (circlesRefusal cs) ≡ 0 → n ≤ circleCap
-      by-test true e z = absurd (omega arith)
-      by-test false e z = few n e
+  pub counted-few : countedRefusal n cs ≡ 0 → n ≤ maxCircles
+  counted-few h = none-counted n (circlesRefusal cs) h .1
 
 -- no circle is looked at where there are too many
 pub counted-same : (n : ℕ) (cs ds : List Circle) → (tooMany n ≡ false → cs ≡ ds) → countedGrouping n cs ≡ countedGrouping n ds
 unfolding countedGrouping grouping
-counted-same n cs ds e = by-test (tooMany n) refl
-  where
-    by-test : (b : Bool) → tooMany n ≡ b → countedGrouping n cs ≡ countedGrouping n ds
-    by-test true h = rw h
-    by-test false h = rw (e h)
+counted-same n cs ds e = by-many n (λ h. rw h) (λ h. rw (e h))
 
 -- ---- the number of the checks of three arrays
-at-once : (a b : Bool) → refusal ((1, true) ∷ (3, a) ∷ (4, b) ∷ []) ≡ 1
-unfolding refusal first causeHolds causes
-at-once a b = refl
-
-few-of-few : (n : ℕ) (xs : List Float) → tooMany n ≡ false → tooMany (length (take n xs)) ≡ false
-unfolding tooMany
-few-of-few n xs h = let room = few n h in le-ltb circleCap (length (take n xs)) (rw length-take (omega arith))
-
 pub front-number : (n : ℕ) (xs ys rs : List Float) → refusal (circleChecks n xs ys rs) ≡ countedRefusal n (front n xs ys rs)
 unfolding circlesRefusal
-front-number n xs ys rs = by-test (tooMany n) refl
-  where
-    by-test : (b : Bool) → tooMany n ≡ b → refusal (circleChecks n xs ys rs) ≡ cond b 1 (circlesRefusal (front n xs ys rs))
-    by-test true h = rw h (at-once (any badCentre (front n xs ys rs)) (any badRadius (front n xs ys rs)))
-    by-test false h = rw (h, length-shown (take n xs) (take n ys) (take n rs), few-of-few n xs h)
+front-number n xs ys rs = counted-number n (length (front n xs ys rs)) _ (few-in-front n xs ys rs)
 
 -- ---- a run whose columns were written over three arrays, unless there are too many circles
 abbrev column : (List Circle → List Float) → ℕ → List Circle → List Float → List Float
@@ -88,8 +64,4 @@ split-grouping n cs xs ys rs long = counted-same n _ cs (λ h. rw h (front-shown
 
 pub whole-grouping : (cs : List Circle) → countedGrouping (length cs) cs ≡ plainGrouping cs
 unfolding countedGrouping plainGrouping circlesRefusal
-whole-grouping cs = by-test (tooMany (length cs)) refl
-  where
-    by-test : (b : Bool) → tooMany (length cs) ≡ b → countedGrouping (length cs) cs ≡ plainGrouping cs
-    by-test true h = rw (h, at-once (any badCentre cs) (any badRadius cs))
-    by-test false h = rw h
+whole-grouping cs = by-many (length cs) (λ h. rw (h, at-once ((3, any badCentre cs) ∷ (4, any badRadius cs) ∷ []))) (λ h. rw h)

@@ -1,7 +1,7 @@
 pub mod Beyond
 pub mod TrailingZeros
 pub mod Rising
-pub mod Checking
+pub mod Counted
 pub mod Overwriting
 pub mod InPlace
 pub mod Columns

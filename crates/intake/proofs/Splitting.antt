@@ -1,13 +1,14 @@
 -- A loop that writes one number of each record of a run over an array, unless there are too many records: what stands there after i turns, and at the end.
-use Prim.Native.Nat.{ℕ, _+_, _≤_, _<_}
+use Prim.Native.Nat.{ℕ, _+_, _≤_, _<_, min}
 use native.Mathlib.Omega.{arith}
 use native.Mathlib.Numerals.{add-one}
 use mathlib.Core.Path.{_≡_, refl, _∙_}
-use mathlib.Core.Bool.{Bool, true, false}
+use mathlib.Core.Bool.{false}
 use mathlib.Core.List.{List}
-use lib.ListN.{length, getD, set, take, drop}
+use borrow.Author.Tests.{le-ltb}
+use lib.ListN.{length, getD, set, take, drop, length-take}
 use lib.Seq.{take-all, take-at}
-use lib.Ieee.{Float}
+use lib.Ieee.{Float, nan}
 use Rattle.shapes.specs.declared.circle.Circle.{Circle}
 use Rattle.scope.specs.Limits.{circleCap}
 use Rattle.scope.specs.Refusals.{tooMany}
@@ -15,50 +16,49 @@ use Rattle.intake.specs.Limits.{maxCircles}
 use Rattle.intake.specs.CauseWords.{front}
 use Rattle.intake.specs.Columns.{xsOf, ysOf, radiiOf, overwritten}
 use Rattle.intake.specs.Splits.{takenOf, loaded}
-use Rattle.intake.proofs.Columns.{length-xs, length-ys, length-radii, shown-back}
-use Rattle.intake.proofs.Checking.{few}
+use Rattle.intake.proofs.Columns.{length-xs, length-ys, length-radii, length-shown, shown-back}
+use Rattle.intake.proofs.Counted.{few, by-many}
 use Rattle.intake.proofs.Overwriting.{over, over-next}
 use Rattle.intake.proofs.InPlace.{over-length}
 
 pub taken-few : (n : ℕ) → (takenOf n ≤ n) × (takenOf n ≤ maxCircles)
 unfolding circleCap
-taken-few n = by-count (tooMany n) refl
-  where
-    by-count : (b : Bool) → tooMany n ≡ b → (takenOf n ≤ n) × (takenOf n ≤ maxCircles)
-    by-count true h = rw h (omega arith, omega arith)
-    by-count false h = let room = few n h in rw h (omega arith, omega arith)
+taken-few n = by-many n (λ h. rw h (omega arith, omega arith)) (λ h. let room = few n h in rw h (omega arith, omega arith))
 
 -- an array after `split` or `split_sides`, from its column of the run
 abbrev pub splitOf : {A B : Type 0} → (List A → List B) → List A → List B → List B
 splitOf f cs zs = loaded (length cs) (f cs) zs
 
--- the column of the numbers that f takes of the records, over the array zs
-module _ {A B : Type 0} (f : A → B) (cs : List A) (d : A) (e : B) (col : List B) (long : length col ≡ length cs) (same : (i : ℕ) → i < length cs → getD col i e ≡ f (getD cs i d)) (zs : List B) (wide : length zs ≡ maxCircles) where
+-- a number of each record (past the end, of d), their column, and the array zs that it is written over
+pub record Column {A : Type 0} (cs : List A) (d : A) (zs : List Float) : Type 0 where
+  pub of : A → Float
+  pub column : List Float
+  pub long : length column ≡ length cs
+  pub same : (i : ℕ) → i < length cs → getD column i nan ≡ of (getD cs i d)
+  pub wide : length zs ≡ maxCircles
+
+module _ {A : Type 0} {cs : List A} {d : A} {zs : List Float} (k : Column cs d zs) where
   abbrev end : ℕ
   end = takenOf (length cs)
 
   -- the array after i turns
-  abbrev pub column : ℕ → List B
-  column i = over i col zs
+  abbrev pub after : ℕ → List Float
+  after i = over i (k .column) zs
 
-  pub column-length : (i : ℕ) → i ≤ end → length (column i) ≡ length zs
-  column-length i h = let room = taken-few (length cs) in over-length i col zs (rw long (omega arith)) (rw wide (omega arith))
+  pub after-long : (i : ℕ) → i ≤ end → length (after i) ≡ maxCircles
+  after-long i h = let room = taken-few (length cs) in over-length i (k .column) zs (rw (k .long) (omega arith)) (rw (k .wide) (omega arith)) ∙ k .wide
 
-  pub column-within : (i : ℕ) → i < end → i < length (column i)
-  column-within i h = let room = taken-few (length cs) in rw (column-length i (omega arith), wide) (omega arith)
+  pub after-within : (i : ℕ) → i < end → i < length (after i)
+  after-within i h = let room = taken-few (length cs) in rw (after-long i (omega arith)) (omega arith)
 
-  pub column-next : (i : ℕ) → i < end → set (column i) i (f (getD cs i d)) ≡ column (i + 1)
-  column-next i h =
+  pub after-next : (i : ℕ) → i < end → set (after i) i (k .of (getD cs i d)) ≡ after (i + 1)
+  after-next i h =
       let room = taken-few (length cs) in
-      rw (← same i (omega arith), add-one) (over-next i col zs e (rw long (omega arith)) (rw wide (omega arith)))
+      rw (← k .same i (omega arith), add-one) (over-next i (k .column) zs nan (rw (k .long) (omega arith)) (rw (k .wide) (omega arith)))
 
-  pub column-all : column end ≡ loaded (length cs) col zs
+  pub after-all : after end ≡ loaded (length cs) (k .column) zs
   unfolding overwritten
-  column-all = by-count (tooMany (length cs)) refl
-    where
-      by-count : (b : Bool) → tooMany (length cs) ≡ b → column end ≡ loaded (length cs) col zs
-      by-count true h = rw h
-      by-count false h = rw (h, long, take-all (length cs) col (rw long (omega arith)))
+  after-all = by-many (length cs) (λ h. rw h) (λ h. rw (h, k .long, take-all (length cs) (k .column) (rw (k .long) (omega arith))))
 
 -- the same of the first n records of an array: the column is theirs, and there is room for it
 module _ {A B : Type 0} (f : A → B) (n : ℕ) (cs : List A) (d : A) (e : B) (col : List B) (long : length col ≡ n) (same : (i : ℕ) → i < n → getD col i e ≡ f (getD cs i d)) (zs : List B) (wide : n ≤ length zs) where
@@ -70,7 +70,7 @@ module _ {A B : Type 0} (f : A → B) (n : ℕ) (cs : List A) (d : A) (e : B) (c
   front-all i low high q = let all : i ≡ n = omega arith in q ∙ rw (all, long, take-all n col (rw long (omega arith)))
 
 -- ---- and back: a column out of its array, and circles out of three
-front-of-column : {A : Type 0} (n : ℕ) (col zs : List A) → length col ≡ n → take n (overwritten col zs) ≡ col
+pub front-of-column : {A : Type 0} (n : ℕ) (col zs : List A) → length col ≡ n → take n (overwritten col zs) ≡ col
 unfolding overwritten
 front-of-column n col zs e = take-at col (drop (length col) zs) n e
 
@@ -78,3 +78,11 @@ pub front-shown : (n : ℕ) (cs : List Circle) (xs ys rs : List Float) → lengt
 front-shown n cs xs ys rs e =
     rw (front-of-column n (xsOf cs) xs (length-xs cs ∙ e), front-of-column n (ysOf cs) ys (length-ys cs ∙ e), front-of-column n (radiiOf cs) rs (length-radii cs ∙ e))
     (shown-back cs)
+
+-- ---- circles in front: no more than n
+pub length-front : (n : ℕ) (xs ys rs : List Float) → length (front n xs ys rs) ≡ min n (length xs)
+length-front n xs ys rs = length-shown (take n xs) (take n ys) (take n rs) ∙ length-take n xs
+
+pub few-in-front : (n : ℕ) (xs ys rs : List Float) → tooMany n ≡ false → tooMany (length (front n xs ys rs)) ≡ false
+unfolding tooMany
+few-in-front n xs ys rs h = let room = few n h in le-ltb circleCap (length (front n xs ys rs)) (rw length-front (omega arith))

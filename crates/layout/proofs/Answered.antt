@@ -14,26 +14,12 @@ use Rattle.scope.specs.Refusals.{tooMany}
 use Rattle.intake.specs.Limits.{maxCircles}
 use Rattle.intake.specs.CauseWords.{front}
 use Rattle.intake.specs.Columns.{circlesOf, xsOf, ysOf, radiiOf, overwritten}
-use Rattle.intake.proofs.Checking.{few}
-use Rattle.intake.proofs.Columns.{length-xs, length-ys, length-radii, shown-back}
-use Rattle.intake.proofs.Splitting.{splitOf}
-use Rattle.layout.specs.Answered.{unlessMany, Answered}
+use Rattle.intake.proofs.Counted.{few, none-counted, of-run}
+use Rattle.intake.proofs.Columns.{length-radii}
+use Rattle.intake.proofs.Splitting.{splitOf, front-of-column, front-shown}
+use Rattle.layout.specs.Answered.{Answered}
 use Rattle.layout.specs.Recentred.{recentred, writtenOf}
 use Rattle.layout.proofs.Recentred.{written-all, written-none, recentred-none, recentred-all}
-
--- a column comes back out of its array
-pub column-back : {A B : Type 0} (f : List A → List B) (cs : List A) (zs : List B) → length (f cs) ≡ length cs → tooMany (length cs) ≡ false → take (length cs) (splitOf f cs zs) ≡ f cs
-unfolding overwritten
-column-back f cs zs e h = rw h (take-at (f cs) (drop (length (f cs)) zs) (length cs) e)
-
--- what is answered of the first n of the arrays, unless there are too many, is answered of the run
-pub of-run : {A X : Type 0} (cs : List A) (first : List A) (f : List A → X) (bad x : X) → (tooMany (length cs) ≡ false → first ≡ cs) → (tooMany (length cs) ≡ true → f cs ≡ bad)
-    → x ≡ unlessMany (length cs) bad (f first) → x ≡ f cs
-of-run cs first f bad x back many e = by-count (tooMany (length cs)) refl
-  where
-    by-count : (b : Bool) → tooMany (length cs) ≡ b → x ≡ f cs
-    by-count true h = rw h at e ∙ sym (many h)
-    by-count false h = rw h at e ∙ ap f (back h)
 
 -- a definition of the answer for a run: too many circles are refused by 1, and a refused run stays as it is
 pub record Answering (number : List Circle → ℕ) (after : List Circle → List Circle) : Type 0 where
@@ -49,20 +35,17 @@ module _ (cs : List Circle) (zs : List Float) where
   shownAgain = front n (splitOf xsOf cs zs) (splitOf ysOf cs zs) (splitOf radiiOf cs zs)
 
   pub run-back : tooMany n ≡ false → shownAgain ≡ cs
-  run-back h = rw (column-back xsOf cs zs (length-xs cs) h, column-back ysOf cs zs (length-ys cs) h, column-back radiiOf cs zs (length-radii cs) h) (shown-back cs)
+  run-back h = rw h (front-shown n cs zs zs zs refl)
 
   module _ {number : List Circle → ℕ} {after : List Circle → List Circle} (by : Answering number after) (r : ℕ) (xs′ ys′ : List Float)
       (answered : Answered number after (splitOf xsOf cs zs) (splitOf ysOf cs zs) (splitOf radiiOf cs zs) n r xs′ ys′) where
     pub answered-number : r ≡ number cs
     unfolding Answered
-    answered-number = of-run cs shownAgain number 1 r run-back (by .many cs) (answered .0)
+    answered-number = of-run n cs shownAgain number 1 r run-back (by .many cs) (answered .0)
 
     pub not-many : r ≡ 0 → tooMany n ≡ false
-    not-many z = by-count (tooMany n) refl
-      where
-        by-count : (b : Bool) → tooMany n ≡ b → tooMany n ≡ false
-        by-count true h = let one-is-not : _≡_ {A = ℕ} 1 0 = sym (by .many cs h) ∙ sym answered-number ∙ z in absurd (omega arith)
-        by-count false h = h
+    unfolding Answered
+    not-many z = none-counted n (number shownAgain) (sym (answered .0) ∙ z) .0
 
     -- so `join` may write that many
     pub answered-fits : (writtenOf r n ≤ n) × (writtenOf r n ≤ maxCircles)
@@ -76,7 +59,7 @@ module _ (cs : List Circle) (zs : List Float) where
     pub answered-shown : r ≡ 0 → recentred (writtenOf r n) xs′ ys′ cs ≡ front n xs′ ys′ (splitOf radiiOf cs zs)
     unfolding Answered
     answered-shown z =
-        let radii : take n (splitOf radiiOf cs zs) ≡ radiiOf cs = column-back radiiOf cs zs (length-radii cs) (not-many z) in
+        let radii : take n (splitOf radiiOf cs zs) ≡ radiiOf cs = rw (not-many z) (front-of-column n (radiiOf cs) zs (length-radii cs)) in
         rw (written-all r n z, recentred-all n xs′ ys′ cs refl (answered .2 z)) (ap (circlesOf (take n xs′) (take n ys′)) (sym radii))
 
     -- and what stands there then are the answer's circles

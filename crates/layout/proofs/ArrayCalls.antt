@@ -21,7 +21,7 @@ use Rattle.laws.proofs.Runs.{tab-equal}
 use Rattle.intake.specs.Limits.{maxCircles}
 use Rattle.shapes.specs.Records.{circleOf}
 use Rattle.intake.specs.Columns.{at, xsOf, ysOf, radiiOf, overwritten}
-use Rattle.intake.proofs.Checking.{few}
+use Rattle.intake.proofs.Counted.{few, by-many}
 use Rattle.layout.specs.Answers.{resultOf, placedOf}
 use Rattle.layout.specs.Contained.{frontContained, SettledAt, Settles}
 use Rattle.layout.specs.FirstLayout.{firstLayout, firstContained}
@@ -84,11 +84,9 @@ module _ (n : ℕ) (cs : List Circle) (long : length cs ≡ maxCircles) (zs : Li
     many-number h = ap (λ (o : Outcome). o .refusal) (refused-many h)
 
     pub first-fits : writtenOf (r .refusal) n ≤ maxCircles
-    first-fits = by-count (tooMany n) refl
-      where
-        by-count : (b : Bool) → tooMany n ≡ b → writtenOf (r .refusal) n ≤ maxCircles
-        by-count true h = let one = many-number h in rw (written-none (r .refusal) n (λ z. omega arith)) (omega arith)
-        by-count false h = subst (λ (k : ℕ). writtenOf (r .refusal) k ≤ maxCircles) (length-take-le n cs (enough h)) (laid-fits (take n cs) zs factor masks areas r xs′ ys′ (as-run h) .1)
+    first-fits =
+        by-many n (λ h. let one = many-number h in rw (written-none (r .refusal) n (λ z. omega arith)) (omega arith))
+        (λ h. subst (λ (k : ℕ). writtenOf (r .refusal) k ≤ maxCircles) (length-take-le n cs (enough h)) (laid-fits (take n cs) zs factor masks areas r xs′ ys′ (as-run h) .1))
 
     first-lays : tooMany n ≡ false → Lays (take n cs) factor masks areas r (recentred (writtenOf (r .refusal) n) xs′ ys′ (take n cs))
     first-lays h = subst (λ (k : ℕ). Lays (take n cs) factor masks areas r (recentred (writtenOf (r .refusal) k) xs′ ys′ (take n cs))) (length-take-le n cs (enough h))
@@ -99,18 +97,13 @@ module _ (n : ℕ) (cs : List Circle) (long : length cs ≡ maxCircles) (zs : Li
 
     pub first-answer : answer ≡ firstLayout n cs factor masks areas
     unfolding firstLayout refusedLayout
-    first-answer = by-count (tooMany n) refl
-      where
-        by-count : (b : Bool) → tooMany n ≡ b → answer ≡ firstLayout n cs factor masks areas
-        by-count true h = let one = many-number h in rw (h, refused-many h, written-none (r .refusal) n (λ z. omega arith), recentred-none xs′ ys′ cs)
-        by-count false h = let l = first-lays h in rw (h, written-first (r .refusal) n xs′ ys′ cs (enough h), l .0, l .1)
+    first-answer =
+        by-many n (λ h. let one = many-number h in rw (h, refused-many h, written-none (r .refusal) n (λ z. omega arith), recentred-none xs′ ys′ cs))
+        (λ h. let l = first-lays h in rw (h, written-first (r .refusal) n xs′ ys′ cs (enough h), l .0, l .1))
 
     pub first-promises : r .refusal ≡ 0 → Promises bound (take n cs) (regions masks areas) (resultOf r) (take n (recentred (writtenOf (r .refusal) n) xs′ ys′ cs))
-    first-promises z = by-count (tooMany n) refl
-      where
-        by-count : (b : Bool) → tooMany n ≡ b → Promises bound (take n cs) (regions masks areas) (resultOf r) (take n (recentred (writtenOf (r .refusal) n) xs′ ys′ cs))
-        by-count true h = let one = many-number h in absurd (omega arith)
-        by-count false h = rw (first-written (r .refusal) n xs′ ys′ cs z (enough h)) (first-lays h .2 z)
+    first-promises z =
+        by-many n (λ h. let one = many-number h in absurd (omega arith)) (λ h. rw (first-written (r .refusal) n xs′ ys′ cs z (enough h)) (first-lays h .2 z))
 
   -- ---- the container
   module _ (xs ys rs : List Float) (columns : Columns xs ys rs) (container : Rectangle) (r : Placed) (xs′ ys′ : List Float) (said : SettledAt xs ys rs n container r xs′ ys′) where
@@ -128,23 +121,18 @@ module _ (n : ℕ) (cs : List Circle) (long : length cs ≡ maxCircles) (zs : Li
     placed-number h = ap (λ (o : Placed). o .refusal) (placed-many h)
 
     pub contained-fits : writtenOf (r .refusal) n ≤ maxCircles
-    contained-fits = by-count (tooMany n) refl
-      where
-        by-count : (b : Bool) → tooMany n ≡ b → writtenOf (r .refusal) n ≤ maxCircles
-        by-count true h = let one = placed-number h in rw (written-none (r .refusal) n (λ z. omega arith)) (omega arith)
-        by-count false h = subst (λ (k : ℕ). writtenOf (r .refusal) k ≤ maxCircles) (length-take-le n cs (enough h)) (settled-fits (take n cs) zs container r xs′ ys′ (settled-as-run h) .1)
+    contained-fits =
+        by-many n (λ h. let one = placed-number h in rw (written-none (r .refusal) n (λ z. omega arith)) (omega arith))
+        (λ h. subst (λ (k : ℕ). writtenOf (r .refusal) k ≤ maxCircles) (length-take-le n cs (enough h)) (settled-fits (take n cs) zs container r xs′ ys′ (settled-as-run h) .1))
 
     abbrev placed : Contained
     placed = record { refusal = r .refusal; container = r .container; circles = recentred (writtenOf (r .refusal) n) xs′ ys′ cs }
 
     pub contained-answer : placed ≡ firstContained n cs container
     unfolding firstContained
-    contained-answer = by-count (tooMany n) refl
-      where
-        by-count : (b : Bool) → tooMany n ≡ b → placed ≡ firstContained n cs container
-        by-count true h = let one = placed-number h in rw (h, written-none (r .refusal) n (λ z. omega arith), recentred-none xs′ ys′ cs, placed-many h)
-        by-count false h =
-            let l : Settles (take n cs) container r (recentred (writtenOf (r .refusal) n) xs′ ys′ (take n cs)) =
-            subst (λ (k : ℕ). Settles (take n cs) container r (recentred (writtenOf (r .refusal) k) xs′ ys′ (take n cs))) (length-take-le n cs (enough h))
-            (settled-settles (take n cs) zs container r xs′ ys′ (settled-as-run h)) in
-            rw (h, written-first (r .refusal) n xs′ ys′ cs (enough h), l .1, ap (λ (p : Placed). p .refusal) (l .0), ap (λ (p : Placed). p .container) (l .0))
+    contained-answer =
+        by-many n (λ h. let one = placed-number h in rw (h, written-none (r .refusal) n (λ z. omega arith), recentred-none xs′ ys′ cs, placed-many h)) (λ h.
+        let l : Settles (take n cs) container r (recentred (writtenOf (r .refusal) n) xs′ ys′ (take n cs)) =
+        subst (λ (k : ℕ). Settles (take n cs) container r (recentred (writtenOf (r .refusal) k) xs′ ys′ (take n cs))) (length-take-le n cs (enough h))
+        (settled-settles (take n cs) zs container r xs′ ys′ (settled-as-run h)) in
+        rw (h, written-first (r .refusal) n xs′ ys′ cs (enough h), l .1, ap (λ (p : Placed). p .refusal) (l .0), ap (λ (p : Placed). p .container) (l .0)))

@@ -24,56 +24,43 @@ use Rattle.scope.specs.Limits.{radiusOk}
 use Rattle.intake.specs.Limits.{maxCircles}
 use Rattle.intake.specs.Columns.{circlesOf, Lifted}
 use Rattle.intake.specs.CauseWords.{front}
-use Rattle.intake.proofs.Checking.{few}
+use Rattle.intake.proofs.Counted.{by-many, none-counted, counted-number}
+use Rattle.intake.proofs.Splitting.{few-in-front}
 use Rattle.intake.proofs.Columns.{length-shown}
 use Rattle.layout.specs.Answers.{placedOf}
 use Rattle.layout.specs.Settling.{placed}
 use Rattle.layout.specs.Contained.{frontContained, containedNumber, SettledAt, SettledFront}
 use Rattle.layout.specs.declared.container.Placed.{Placed}
 use Rattle.layout.proofs.WholeSteps.{radii-lifted}
-use Rattle.layout.proofs.FrontLayouts.{few-in-front}
 
 module _ (n : ℕ) (xs ys rs : List Float) (container : Rectangle) where
   abbrev cs : List Circle
   cs = front n xs ys rs
 
-  at-once : (c r p s : Bool) → refusal ((1, true) ∷ (3, c) ∷ (4, r) ∷ (3, p) ∷ (7, s) ∷ []) ≡ 1
-  unfolding refusal first causeHolds causes
-  at-once c r p s = refl
-
   -- one number for a circle's centre and the container's
-  in-order : (c r p s : Bool) → refusal ((1, false) ∷ (3, c) ∷ (4, r) ∷ (3, p) ∷ (7, s) ∷ []) ≡ refusal ((1, false) ∷ (3, c || p) ∷ (4, r) ∷ (7, s) ∷ [])
+  in-order : (b c r p s : Bool) → refusal ((1, b) ∷ (3, c) ∷ (4, r) ∷ (3, p) ∷ (7, s) ∷ []) ≡ refusal ((1, b) ∷ (3, c || p) ∷ (4, r) ∷ (7, s) ∷ [])
   unfolding refusal first causeHolds causes
-  in-order true r p s = refl
-  in-order false r p s = refl
+  in-order b true r p s = refl
+  in-order b false r p s = refl
 
   pub container-number : refusal ((1, tooMany n) ∷ (3, any badCentre cs) ∷ (4, any badRadius cs) ∷ (3, badPoint (container .center)) ∷ (7, badSide container) ∷ []) ≡ containedNumber n xs ys rs container
   unfolding containedNumber containerRefusal
-  container-number = by-test (tooMany n) refl
-    where
-      by-test : (b : Bool) → tooMany n ≡ b
-          → refusal ((1, b) ∷ (3, any badCentre cs) ∷ (4, any badRadius cs) ∷ (3, badPoint (container .center)) ∷ (7, badSide container) ∷ []) ≡ cond b 1 (containerRefusal cs container)
-      by-test true e = at-once (any badCentre cs) (any badRadius cs) (badPoint (container .center)) (badSide container)
-      by-test false e = in-order (any badCentre cs) (any badRadius cs) (badPoint (container .center)) (badSide container) ∙ rw (few-in-front n xs ys rs e)
-
-  both : (b : Bool) → tooMany n ≡ b → _≡_ {A = ℕ} (cond b 1 (containerRefusal cs container)) 0 → (tooMany n ≡ false) × (containerRefusal cs container ≡ 0)
-  both true e z = absurd (omega arith)
-  both false e z = (e, z)
+  container-number =
+      in-order (tooMany n) (any badCentre cs) (any badRadius cs) (badPoint (container .center)) (badSide container) ∙ counted-number n (length cs) _ (few-in-front n xs ys rs)
 
   pub number-none : containedNumber n xs ys rs container ≡ 0 → (n ≤ maxCircles) × (containerRefusal cs container ≡ 0)
-  unfolding containedNumber circleCap
-  number-none z = let b = both (tooMany n) refl z in (few n (b .0), b .1)
+  unfolding containedNumber
+  number-none z = let none = none-counted n (containerRefusal cs container) z in (none .1, none .2)
 
   -- ---- a refusal
   pub settled-refused : (number : ℕ) → number ≡ containedNumber n xs ys rs container → number ≢ 0 → SettledAt xs ys rs n container (record { refusal = number; container = container }) xs ys
   unfolding containedNumber frontContained
-  settled-refused number e h = record { placed = by-test (tooMany n) refl; long = λ z. absurd (h z); circles = λ z. absurd (h z) }
+  settled-refused number e h = record { placed = is-placed; long = λ z. absurd (h z); circles = λ z. absurd (h z) }
     where
-      by-test : (b : Bool) → tooMany n ≡ b → _≡_ {A = Placed} (record { refusal = number; container = container }) (placedOf (frontContained n xs ys rs container))
-      by-test true t = rw (e, t)
-      by-test false t =
+      is-placed : _≡_ {A = Placed} (record { refusal = number; container = container }) (placedOf (frontContained n xs ys rs container))
+      is-placed = by-many n (λ t. rw (e, t)) (λ t.
           let is : number ≡ containerRefusal cs container = e ∙ rw t in
-          rw (t, container-answers cs container .at-refusal (λ z. h (is ∙ z)), is)
+          rw (t, container-answers cs container .at-refusal (λ z. h (is ∙ z)), is))
 
   pub front-settled : (xs₁ ys₁ : List Float) → length xs₁ ≡ n → length ys₁ ≡ n → circlesOf xs₁ ys₁ (take n rs) ≡ settled container cs .circles
       → SettledFront xs ys rs n container (xs₁ ++ drop (n - 0) xs) (ys₁ ++ drop (n - 0) ys)

@@ -26,21 +26,12 @@ use Rattle.promises.proofs.whole.Demand3.{layout-promises}
 use Rattle.intake.specs.Limits.{maxCircles}
 use Rattle.intake.specs.Columns.{at, circlesOf}
 use Rattle.intake.specs.CauseWords.{front}
-use Rattle.intake.proofs.Checking.{few}
+use Rattle.intake.proofs.Counted.{by-many, none-counted, counted-number}
 use Rattle.intake.proofs.Columns.{length-shown, shown-at}
+use Rattle.intake.proofs.Splitting.{length-front, few-in-front}
 use Rattle.layout.specs.Answers.{resultOf}
 use Rattle.layout.specs.Laid.{frontLayout, frontNumber, Laid}
 use Rattle.layout.specs.declared.normalize.Result.{Result}
-
--- ---- circles in front
-length-front : (n : ℕ) (xs ys rs : List Float) → length (front n xs ys rs) ≡ min n (length xs)
-length-front n xs ys rs = length-shown (take n xs) (take n ys) (take n rs) ∙ length-take n xs
-
--- no more circles than n
-pub few-in-front : (n : ℕ) (xs ys rs : List Float) → tooMany n ≡ false → tooMany (length (front n xs ys rs)) ≡ false
-few-in-front n xs ys rs e =
-    let l : n ≤ circleCap = few n e in
-    is-false (tooMany (length (front n xs ys rs))) (not-too-many-iff (length (front n xs ys rs)) .1 (rw (length-front n xs ys rs) (omega arith)))
 
 -- numbers of the lists are numbers of the circles
 pub front-doubles : (n : ℕ) (xs ys rs : List Float) (factor : Float) → ((i : ℕ) → T (fits binary64 (at xs i))) → ((i : ℕ) → T (fits binary64 (at ys i))) → ((i : ℕ) → T (fits binary64 (at rs i)))
@@ -64,10 +55,6 @@ module _ (n : ℕ) (xs ys rs : List Float) (factor : Float) (masks : List ℕ) (
   abbrev cs : List Circle
   cs = front n xs ys rs
 
-  at-once : (c r u m s f : Bool) → refusal ((1, true) ∷ (3, c) ∷ (4, r) ∷ (13, u) ∷ (2, m) ∷ (5, s) ∷ (6, f) ∷ []) ≡ 1
-  unfolding refusal first causeHolds causes
-  at-once c r u m s f = refl
-
   -- the order of a call's checks does not matter: that of the causes does
   in-order : (b c r u m s f : Bool) → refusal ((1, b) ∷ (3, c) ∷ (4, r) ∷ (13, u) ∷ (2, m) ∷ (5, s) ∷ (6, f) ∷ []) ≡ refusal ((1, b) ∷ (13, u) ∷ (2, m) ∷ (3, c) ∷ (4, r) ∷ (5, s) ∷ (6, f) ∷ [])
   unfolding refusal first causeHolds causes
@@ -77,32 +64,19 @@ module _ (n : ℕ) (xs ys rs : List Float) (factor : Float) (masks : List ℕ) (
       refusal ((1, tooMany n) ∷ (3, any badCentre cs) ∷ (4, any badRadius cs) ∷ (13, unequal masks areas) ∷ (2, tooManyRegions (length masks)) ∷ (5, not (rising masks)) ∷ (6, badFactor factor) ∷ [])
       ≡ frontNumber n xs ys rs factor masks areas
   unfolding frontNumber layoutRefusal
-  layout-number = by-test (tooMany n) refl
-    where
-      by-test : (b : Bool) → tooMany n ≡ b
-          → refusal ((1, b) ∷ (3, any badCentre cs) ∷ (4, any badRadius cs) ∷ (13, unequal masks areas) ∷ (2, tooManyRegions (length masks)) ∷ (5, not (rising masks)) ∷ (6, badFactor factor) ∷ [])
-          ≡ cond b 1 (layoutRefusal cs factor masks areas)
-      by-test true e = at-once (any badCentre cs) (any badRadius cs) (unequal masks areas) (tooManyRegions (length masks)) (not (rising masks)) (badFactor factor)
-      by-test false e =
-          in-order false (any badCentre cs) (any badRadius cs) (unequal masks areas) (tooManyRegions (length masks)) (not (rising masks)) (badFactor factor)
-          ∙ rw (few-in-front n xs ys rs e)
-
-  both : (b : Bool) → tooMany n ≡ b → _≡_ {A = ℕ} (cond b 1 (layoutRefusal cs factor masks areas)) 0 → (tooMany n ≡ false) × (layoutRefusal cs factor masks areas ≡ 0)
-  both true e z = absurd (omega arith)
-  both false e z = (e, z)
+  layout-number =
+      in-order (tooMany n) (any badCentre cs) (any badRadius cs) (unequal masks areas) (tooManyRegions (length masks)) (not (rising masks)) (badFactor factor)
+      ∙ counted-number n (length cs) _ (few-in-front n xs ys rs)
 
   pub number-none : frontNumber n xs ys rs factor masks areas ≡ 0 → (n ≤ maxCircles) × (layoutRefusal cs factor masks areas ≡ 0)
-  unfolding frontNumber circleCap
-  number-none z = let b = both (tooMany n) refl z in (few n (b .0), b .1)
+  unfolding frontNumber
+  number-none z = let none = none-counted n (layoutRefusal cs factor masks areas) z in (none .1, none .2)
 
   -- ---- a refusal
   refused-result : frontNumber n xs ys rs factor masks areas ≢ 0 → refusedLayout (frontNumber n xs ys rs factor masks areas) [] .result ≡ frontLayout n xs ys rs factor masks areas .result
   unfolding frontNumber frontLayout refusedLayout
-  refused-result h = by-test (tooMany n) refl
-    where
-      by-test : (b : Bool) → tooMany n ≡ b → refusedLayout (frontNumber n xs ys rs factor masks areas) [] .result ≡ frontLayout n xs ys rs factor masks areas .result
-      by-test true e = rw e
-      by-test false e = let some : layoutRefusal cs factor masks areas ≢ 0 = rw e at h in rw (e, layout-answers cs factor masks areas .at-refusal some)
+  refused-result h =
+      by-many n (λ e. rw e) (λ e. let some : layoutRefusal cs factor masks areas ≢ 0 = rw e at h in rw (e, layout-answers cs factor masks areas .at-refusal some))
 
   pub laid-refused : (r : Result) (number : ℕ) → number ≡ frontNumber n xs ys rs factor masks areas → number ≢ 0 → resultOf r ≡ refusedLayout number [] .result → Laid xs ys rs n factor masks areas r xs ys
   unfolding refusedLayout

@@ -19,28 +19,17 @@ use Rattle.laws.proofs.AfterRefusal.{layout-answers, container-answers}
 use Rattle.intake.specs.Limits.{maxCircles}
 use Rattle.intake.specs.CauseWords.{front}
 use Rattle.intake.specs.Columns.{xsOf, ysOf, radiiOf}
+use Rattle.intake.specs.Counted.{unlessMany}
+use Rattle.intake.proofs.Counted.{chosen, none-counted, of-run}
 use Rattle.intake.proofs.Splitting.{splitOf}
-use Rattle.layout.specs.Answered.{unlessMany, Answered}
+use Rattle.layout.specs.Answered.{Answered}
 use Rattle.layout.specs.Answers.{resultOf, placedOf}
 use Rattle.layout.specs.Contained.{frontContained, SettledAt, Settles}
 use Rattle.layout.specs.Laid.{frontLayout, Laid, Lays}
 use Rattle.layout.specs.Recentred.{recentred, writtenOf}
 use Rattle.layout.specs.declared.normalize.Result.{Result}
 use Rattle.layout.specs.declared.container.Placed.{Placed}
-use Rattle.layout.proofs.Answered.{Answering, of-run, run-back, not-many, answered-fits, answered-shown, answered-run}
-
--- ---- a choice that is read field by field
-chosen : {A B : Type 0} (f : A → B) (b : Bool) (x y : A) → f (cond b x y) ≡ cond b (f x) (f y)
-chosen f true x y = refl
-chosen f false x y = refl
-
--- a number 0 is not that of too many
-few-accepted : (n k r : ℕ) → r ≡ unlessMany n 1 k → r ≡ 0 → tooMany n ≡ false
-few-accepted n k r e z = by-count (tooMany n) refl
-  where
-    by-count : (b : Bool) → tooMany n ≡ b → tooMany n ≡ false
-    by-count true h = let one-is-none : _≡_ {A = ℕ} 1 0 = sym (rw h at e) ∙ z in absurd (omega arith)
-    by-count false h = h
+use Rattle.layout.proofs.Answered.{Answering, run-back, not-many, answered-fits, answered-shown, answered-run}
 
 is-refusal : (k : ℕ) → k ≡ 1 → k ≡ 0 → ⊥
 is-refusal k one none = omega arith
@@ -97,7 +86,7 @@ module _ (cs : List Circle) (zs : List Float) where
         let number : r .refusal ≡ unlessMany n 1 (layoutRefusal (front n xs ys rs) factor masks areas) =
         ap (λ (o : Outcome). o .refusal) result-said ∙ chosen (λ (o : Outcome). o .refusal) (tooMany n) (refusedLayout 1 [] .result) (layout (front n xs ys rs) factor masks areas .result)
         ∙ ap (λ (k : ℕ). cond (tooMany n) 1 k) (layout-answers (front n xs ys rs) factor masks areas .says) in
-        (number, λ z. e .circles z ∙ rw (few-accepted n _ (r .refusal) number z), e .long)
+        (number, λ z. e .circles z ∙ rw (none-counted n _ (sym number ∙ z) .0), e .long)
 
     pub laid-fits : (writtenOf (r .refusal) n ≤ n) × (writtenOf (r .refusal) n ≤ maxCircles)
     laid-fits = answered-fits cs zs (layout-answering factor masks areas) (r .refusal) xs′ ys′ laid-answered
@@ -105,7 +94,7 @@ module _ (cs : List Circle) (zs : List Float) where
     pub laid-lays : Lays cs factor masks areas r (recentred (writtenOf (r .refusal) n) xs′ ys′ cs)
     laid-lays =
         let by = layout-answering factor masks areas in (
-          of-run cs (front n xs ys rs) (λ l. layout l factor masks areas .result) (refusedLayout 1 [] .result) (resultOf r) (run-back cs zs) (many-result factor masks areas cs) result-said,
+          of-run n cs (front n xs ys rs) (λ l. layout l factor masks areas .result) (refusedLayout 1 [] .result) (resultOf r) (run-back cs zs) (many-result factor masks areas cs) result-said,
           answered-run cs zs by (r .refusal) xs′ ys′ laid-answered,
           λ z. subst (λ (l : List Circle). Promises bound l (regions masks areas) (resultOf r) (recentred (writtenOf (r .refusal) n) xs′ ys′ cs)) (run-back cs zs (not-many cs zs by (r .refusal) xs′ ys′ laid-answered z)) (rw (answered-shown cs zs by (r .refusal) xs′ ys′ laid-answered z) (e .promises z)),
         )
@@ -125,10 +114,10 @@ module _ (cs : List Circle) (zs : List Float) where
         let number : r .refusal ≡ unlessMany n 1 (containerRefusal (front n xs ys rs) container) =
         ap (λ (o : Placed). o .refusal) placed-said ∙ chosen (λ (o : Placed). o .refusal) (tooMany n) many (placedOf (contained (front n xs ys rs) container))
         ∙ ap (λ (k : ℕ). cond (tooMany n) 1 k) (container-answers (front n xs ys rs) container .says) in
-        (number, λ z. e .circles z ∙ rw (few-accepted n _ (r .refusal) number z), e .long)
+        (number, λ z. e .circles z ∙ rw (none-counted n _ (sym number ∙ z) .0), e .long)
 
     pub settled-fits : (writtenOf (r .refusal) n ≤ n) × (writtenOf (r .refusal) n ≤ maxCircles)
     settled-fits = answered-fits cs zs (container-answering container) (r .refusal) xs′ ys′ settled-answered
 
     pub settled-settles : Settles cs container r (recentred (writtenOf (r .refusal) n) xs′ ys′ cs)
-    settled-settles = (of-run cs (front n xs ys rs) (λ l. placedOf (contained l container)) many r (run-back cs zs) (many-placed container cs) placed-said, answered-run cs zs (container-answering container) (r .refusal) xs′ ys′ settled-answered)
+    settled-settles = (of-run n cs (front n xs ys rs) (λ l. placedOf (contained l container)) many r (run-back cs zs) (many-placed container cs) placed-said, answered-run cs zs (container-answering container) (r .refusal) xs′ ys′ settled-answered)

@@ -2,17 +2,12 @@
 -- a refusal's number or 0, and the circles after an acceptance.
 use Prim.Native.Nat.{ℕ}
 use mathlib.Core.Path.{_≡_}
-use mathlib.Core.Bool.{cond}
 use mathlib.Core.List.{List}
 use lib.Ieee.{Float}
 use lib.ListN.{length, take}
 use Rattle.shapes.specs.declared.circle.Circle.{Circle}
-use Rattle.scope.specs.Refusals.{tooMany}
+use Rattle.intake.specs.Counted.{unlessMany}
 use Rattle.intake.specs.CauseWords.{front}
-
--- an answer of the first n, unless there are too many
-abbrev pub unlessMany : {X : Type 0} → ℕ → X → X → X
-unlessMany n bad good = cond (tooMany n) bad good
 
 unfoldable pub Answered : (List Circle → ℕ) → (List Circle → List Circle) → List Float → List Float → List Float → ℕ → ℕ → List Float → List Float → Type 0
 Answered number after xs ys rs n refusal xs′ ys′ =

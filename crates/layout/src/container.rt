@@ -1,4 +1,5 @@
-// A layout in its container: the container to the origin, the circles to its middle.
+// A layout in its container: the container to the origin, the circles to its middle. Nothing is turned or mirrored: the container is a frame whose sides
+// lie along the axes, and it could not follow.
 ghost use mathlib.Core.Path.{_≡_};
 ghost use Prim.Native.Nat.{_≤_};
 ghost use lib.ListN.{length, take};
@@ -37,7 +38,8 @@ pub struct Placed {
     pub container: Rectangle,
 }
 
-// Moves the container to the origin, the circles along, and then the circles to its middle, unless they reach past its edge.
+// Moves the container to the origin, the circles along, and then the circles to its middle, unless they reach past its edge: what of them
+// shows depends on where the edge cuts them, and a move would change that.
 // Rewrites the centres of a lent run. A refused run is not written to.
 // Refused: too many circles (1), a centre (3), a radius (4), a side (7).
 pub fn normalize_layout_with_container(circles: &mut [Circle], container: Rectangle) -> Placed

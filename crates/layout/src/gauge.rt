@@ -1,4 +1,5 @@
 // The gauge of normalize.rs: each cluster turned and mirrored, so that its first two circles lie level and the first stands at the lower left.
+// Which way a cluster lies says nothing of its inks, so one way is chosen for all, and circles lose nothing by it: a turned circle is a circle.
 // A cluster is the circles that have its number.
 ghost use mathlib.Core.Path.{_≡_};
 ghost use mathlib.Core.Bool.{_&&_};

@@ -160,7 +160,8 @@ fn in_front(
     )
 }
 
-// ---- the steps, one after the other
+// ---- the steps, one after the other. Clusters go by the regions' areas and not by how the circles lie: where two circles nearly coincide or touch, rounding
+// decides how they lie, and the areas are what the circles were fitted to.
 
 fn arranged(
     xs: &mut [f64],

@@ -1,5 +1,5 @@
 // A circle that lies in one other and meets no third could stand anywhere inside it. It is put half-way to the edge:
-// in the middle it would leave its parent a thin ring, with no room for a label.
+// in the middle it would leave its parent a thin ring, with no room for a label, and further out it would touch.
 ghost use mathlib.Core.Path.{_≡_};
 ghost use mathlib.Core.Bool.{true, false, not, _&&_, cond};
 ghost use mathlib.Core.Option.{none};

@@ -16,7 +16,7 @@ use Rattle.scope.specs.Computing.{computing}
 use Rattle.laws.proofs.Cases.{and-iff}
 use Rattle.laws.proofs.EntryPoints.{columns-reads}
 use Rattle.intake.specs.Limits.{maxCircles}
-use Rattle.intake.proofs.Checking.{few}
+use Rattle.intake.proofs.Counted.{few}
 
 -- the columns of 1 to 64 boxes
 abbrev pub table : List ℕ

@@ -24,7 +24,7 @@ use Rattle.laws.proofs.Runs.{length-tab, getD-tab}
 use Rattle.laws.proofs.AfterRefusal.{refusedPacking}
 use Rattle.intake.specs.Limits.{maxCircles}
 use Rattle.intake.specs.Columns.{at, overwritten, widthsOf, heightsOf}
-use Rattle.intake.proofs.Checking.{few}
+use Rattle.intake.proofs.Counted.{few, by-many, chosen, none-counted}
 use Rattle.intake.proofs.Columns.{any-either, not-both, length-widths, length-heights, width-at, height-at}
 use Rattle.intake.proofs.Splitting.{splitOf}
 use Rattle.packing.specs.Sides.{sided, sidesNumber, sidedPacking, firstPacking, centreXs, centreYs, boxAt, Sides}
@@ -37,11 +37,6 @@ unfolding overwritten
 front-at l m i h = List·getD-append l (drop (length l) m) nan i h
 
 -- ---- refused or accepted
-by-count : (b : Bool) (k : ℕ) (l : List Rectangle) → cond b (packing 1 []) (packing k l) ≡ packing (cond b 1 k) l
-unfolding packing
-by-count true k l = refl
-by-count false k l = refl
-
 refused-by : (k : ℕ) (l : List Rectangle) → k ≢ 0 → packing k l ≡ refusedPacking k
 unfolding packing
 refused-by zero l h = absurd (h refl)
@@ -49,8 +44,8 @@ refused-by (suc k) l h = refl
 
 module _ (n : ℕ) (ws hs : List Float) (pad : Float) where
   answered : sidedPacking n ws hs pad ≡ packing (sidesNumber n ws hs pad) (packed golden (sided n ws hs) pad)
-  unfolding sidedPacking sidesNumber skylinePack
-  answered = by-count (tooMany n) (packRefusal (sided n ws hs) pad) (packed golden (sided n ws hs) pad)
+  unfolding sidedPacking sidesNumber skylinePack packing
+  answered = sym (chosen (λ (k : ℕ). packing k (packed golden (sided n ws hs) pad)) (tooMany n) 1 (packRefusal (sided n ws hs) pad))
 
   pub sided-refused : sidesNumber n ws hs pad ≢ 0 → sidedPacking n ws hs pad ≡ refusedPacking (sidesNumber n ws hs pad)
   sided-refused h = answered ∙ refused-by (sidesNumber n ws hs pad) (packed golden (sided n ws hs) pad) h
@@ -60,12 +55,8 @@ module _ (n : ℕ) (ws hs : List Float) (pad : Float) where
   sided-accepted h = rw (answered, h)
 
   pub accepted-few : sidesNumber n ws hs pad ≡ 0 → n ≤ maxCircles
-  unfolding sidesNumber circleCap
-  accepted-few z = by-test (tooMany n) refl z
-    where
-      by-test : (b : Bool) → tooMany n ≡ b → _≡_ {A = ℕ} (cond b 1 (packRefusal (sided n ws hs) pad)) 0 → n ≤ maxCircles
-      by-test true e y = absurd (omega arith)
-      by-test false e y = few n e
+  unfolding sidesNumber
+  accepted-few z = none-counted n (packRefusal (sided n ws hs) pad) z .1
 
   -- ---- the boxes from their sides and the places of their centres
   abbrev boxes : List Rectangle
@@ -139,18 +130,14 @@ module _ (k : ℕ) (ws hs : List Float) (rects : List Rectangle) (s : Sides k ws
 pub first-by-sides : (n : ℕ) (ws hs : List Float) (rects : List Rectangle) (pad : Float) → length rects ≡ maxCircles → At (min n maxCircles) ws nan (widthAt rects) → At (min n maxCircles) hs nan (heightAt rects)
     → sidedPacking n ws hs pad ≡ firstPacking n rects pad
 unfolding sidedPacking firstPacking circleCap
-first-by-sides n ws hs rects pad long w h = by-test (tooMany n) refl
-  where
-    by-test : (b : Bool) → tooMany n ≡ b → cond b (packing 1 []) (skylinePack (sided n ws hs) pad) ≡ cond b (packing 1 []) (skylinePack (take n rects) pad)
-    by-test true e = refl
-    by-test false e =
-        let l : n ≤ maxCircles = few n e in
-        let all : min n maxCircles ≡ n = min-eq-left l in
-        sym (packing-by-sides n ws hs (take n rects) (record {
-          long = length-take-le n rects (omega arith);
-          wide = λ i g. ap (λ (r : Rectangle). r .width) (getD-take n rects i noRectangle g) ∙ sym (w .is i (omega arith));
-          high = λ i g. ap (λ (r : Rectangle). r .height) (getD-take n rects i noRectangle g) ∙ sym (h .is i (omega arith));
-        }) pad)
+first-by-sides n ws hs rects pad long w h = by-many n (λ e. rw e) (λ e.
+    let l : n ≤ maxCircles = few n e in
+    let all : min n maxCircles ≡ n = min-eq-left l in
+    rw e (sym (packing-by-sides n ws hs (take n rects) (record {
+      long = length-take-le n rects (omega arith);
+      wide = λ i g. ap (λ (r : Rectangle). r .width) (getD-take n rects i noRectangle g) ∙ sym (w .is i (omega arith));
+      high = λ i g. ap (λ (r : Rectangle). r .height) (getD-take n rects i noRectangle g) ∙ sym (h .is i (omega arith));
+    }) pad)))
 
 -- ---- a run whose sides were written over two lists, unless there are too many boxes
 many-refused : (rects : List Rectangle) (pad : Float) → tooMany (length rects) ≡ true → packing 1 [] ≡ skylinePack rects pad
@@ -166,9 +153,5 @@ written-sides rects ws hs = record {
 
 pub split-by-sides : (rects : List Rectangle) (ws hs : List Float) (pad : Float) → sidedPacking (length rects) (splitOf widthsOf rects ws) (splitOf heightsOf rects hs) pad ≡ skylinePack rects pad
 unfolding sidedPacking
-split-by-sides rects ws hs pad = by-test (tooMany (length rects)) refl
-  where
-    by-test : (b : Bool) → tooMany (length rects) ≡ b
-        → cond b (packing 1 []) (skylinePack (sided (length rects) (cond b ws (overwritten (widthsOf rects) ws)) (cond b hs (overwritten (heightsOf rects) hs))) pad) ≡ skylinePack rects pad
-    by-test true h = many-refused rects pad h
-    by-test false h = sym (packing-by-sides _ _ _ rects (written-sides rects ws hs) pad)
+split-by-sides rects ws hs pad =
+    by-many (length rects) (λ h. rw h (many-refused rects pad h)) (λ h. rw h (sym (packing-by-sides _ _ _ rects (written-sides rects ws hs) pad)))

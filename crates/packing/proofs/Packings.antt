@@ -21,7 +21,7 @@ use Rattle.laws.proofs.Runs.{length-tab, getD-tab, tab-equal, many-equal, many-
 use Rattle.intake.specs.Columns.{at, overwritten}
 use Rattle.intake.specs.Limits.{maxCircles}
 use Rattle.intake.proofs.Columns.{any-either, not-both}
-use Rattle.intake.proofs.Checking.{few}
+use Rattle.intake.proofs.Counted.{few}
 use Rattle.packing.specs.Sides.{sided, sidesNumber, centreXs, centreYs, Sides}
 use Rattle.packing.specs.Lists.{At, Lined}
 use Rattle.packing.proofs.Arrays.{at-all}

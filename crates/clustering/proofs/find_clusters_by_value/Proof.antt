@@ -6,7 +6,7 @@ use lib.ListN.{length, take}
 use lib.Seq.{length-take-le}
 use borrow.Author.Needs.{needs}
 use Rattle.scope.specs.Limits.{circleCap}
-use Rattle.intake.proofs.Checking.{few}
+use Rattle.intake.proofs.Counted.{few}
 use Rattle.clustering.proofs.PlainClusters.{split-grouping}
 use Rattle.clustering.proofs.find_clusters_by_value.Statement.{statement}
 use Rattle.clustering.proofs.find_clusters_by_value.Tie as tie

@@ -63,7 +63,7 @@ use Rattle.intake.specs.Splits.{takenOf, countRefusal}
 use Rattle.intake.proofs.Lending.{refTo}
 use Rattle.intake.proofs.NumberArrays.{IsF, F64s, numbersTy, opens-array, closes-array}
 use Rattle.intake.proofs.TakenCalls.{TakenContract, RefusalContract, asks-taken, asks-refusal}
-use Rattle.intake.proofs.Splitting.{splitOf, taken-few, column, column-length, column-within, column-next, column-all}
+use Rattle.intake.proofs.Splitting.{splitOf, taken-few, Column, after, after-long, after-within, after-next, after-all}
 use Rattle.intake.proofs.runs.taken.Symbol as taken-def
 use Rattle.intake.proofs.runs.taken.Symbol.{name as #taken}
 use Rattle.intake.proofs.runs.taken.Met as taken-thm
@@ -182,51 +182,15 @@ module _ {M : Type 1} (𝓤 : URA M) (H : Heap 𝓤) (A : Atoms 𝓤) (W : Given
   array j = tyRef (named j) mut (numbersTy maxCircles)
 
   module _ (𝓣 : Tables 𝓤 H) (known-refusal : Triple 𝓤 (𝓣 .C #refusal) (RefusalContract 𝓤 H A at-mem run)) (q′ : Share) (e₁ : length xs ≡ maxCircles) (e₂ : length ys ≡ maxCircles) (e₃ : length rs ≡ maxCircles) (l₀ l₁ l₂ l₃ l₄ l₅ l₆ l₇ l₈ l₉ l₁₀ l₁₁ l₁₂ l₁₃ l₁₄ l₁₅ l₁₆ l₁₇ l₁₈ : ℕ) where
-    -- the columns after i turns
-    abbrev c₁ : ℕ → List Float
-    c₁ = column fx cs none nan (xsOf cs) (length-xs cs) (x-at cs) xs e₁
+    -- the columns
+    abbrev k₁ : Column cs none xs
+    k₁ = record { of = fx; column = xsOf cs; long = length-xs cs; same = x-at cs; wide = e₁ }
 
-    long₁ : (i : ℕ) → i ≤ end → length (c₁ i) ≡ maxCircles
-    long₁ i h = column-length fx cs none nan (xsOf cs) (length-xs cs) (x-at cs) xs e₁ i h ∙ e₁
+    abbrev k₂ : Column cs none ys
+    k₂ = record { of = fy; column = ysOf cs; long = length-ys cs; same = y-at cs; wide = e₂ }
 
-    within₁ : (i : ℕ) → i < end → i < length (c₁ i)
-    within₁ = column-within fx cs none nan (xsOf cs) (length-xs cs) (x-at cs) xs e₁
-
-    next₁ : (i : ℕ) → i < end → set (c₁ i) i (fx (elem i)) ≡ c₁ (i + 1)
-    next₁ = column-next fx cs none nan (xsOf cs) (length-xs cs) (x-at cs) xs e₁
-
-    all₁ : c₁ end ≡ splitOf xsOf cs xs
-    all₁ = column-all fx cs none nan (xsOf cs) (length-xs cs) (x-at cs) xs e₁
-
-    abbrev c₂ : ℕ → List Float
-    c₂ = column fy cs none nan (ysOf cs) (length-ys cs) (y-at cs) ys e₂
-
-    long₂ : (i : ℕ) → i ≤ end → length (c₂ i) ≡ maxCircles
-    long₂ i h = column-length fy cs none nan (ysOf cs) (length-ys cs) (y-at cs) ys e₂ i h ∙ e₂
-
-    within₂ : (i : ℕ) → i < end → i < length (c₂ i)
-    within₂ = column-within fy cs none nan (ysOf cs) (length-ys cs) (y-at cs) ys e₂
-
-    next₂ : (i : ℕ) → i < end → set (c₂ i) i (fy (elem i)) ≡ c₂ (i + 1)
-    next₂ = column-next fy cs none nan (ysOf cs) (length-ys cs) (y-at cs) ys e₂
-
-    all₂ : c₂ end ≡ splitOf ysOf cs ys
-    all₂ = column-all fy cs none nan (ysOf cs) (length-ys cs) (y-at cs) ys e₂
-
-    abbrev c₃ : ℕ → List Float
-    c₃ = column fr cs none nan (radiiOf cs) (length-radii cs) (radius-at cs) rs e₃
-
-    long₃ : (i : ℕ) → i ≤ end → length (c₃ i) ≡ maxCircles
-    long₃ i h = column-length fr cs none nan (radiiOf cs) (length-radii cs) (radius-at cs) rs e₃ i h ∙ e₃
-
-    within₃ : (i : ℕ) → i < end → i < length (c₃ i)
-    within₃ = column-within fr cs none nan (radiiOf cs) (length-radii cs) (radius-at cs) rs e₃
-
-    next₃ : (i : ℕ) → i < end → set (c₃ i) i (fr (elem i)) ≡ c₃ (i + 1)
-    next₃ = column-next fr cs none nan (radiiOf cs) (length-radii cs) (radius-at cs) rs e₃
-
-    all₃ : c₃ end ≡ splitOf radiiOf cs rs
-    all₃ = column-all fr cs none nan (radiiOf cs) (length-radii cs) (radius-at cs) rs e₃
+    abbrev k₃ : Column cs none rs
+    k₃ = record { of = fr; column = radiiOf cs; long = length-radii cs; same = radius-at cs; wide = e₃ }
 
     abbrev C : Calls 𝓤 H
     C = 𝓣 .C
@@ -239,7 +203,7 @@ module _ {M : Type 1} (𝓤 : URA M) (H : Heap 𝓤) (A : Atoms 𝓤) (W : Given
 
     -- the rows, what shuts each, and the locals, last first
     abbrev At : Upto → List (Item 𝓤)
-    At i = ‵ (row T.the-row q′ cs b₀ o₀) ∷ ‵ (row f64 fullShare (c₁ (i .0)) b₁ o₁) ∷ ‵ (row f64 fullShare (c₂ (i .0)) b₂ o₂) ∷ ‵ (row f64 fullShare (c₃ (i .0)) b₃ o₃)
+    At i = ‵ (row T.the-row q′ cs b₀ o₀) ∷ ‵ (row f64 fullShare (after k₁ (i .0)) b₁ o₁) ∷ ‵ (row f64 fullShare (after k₂ (i .0)) b₂ o₂) ∷ ‵ (row f64 fullShare (after k₃ (i .0)) b₃ o₃)
         ∷ ‵ (fobor κ₀ q₀ (arr-parts (shares T.the-row) n .part q′ cs b₀ o₀)) ∷ ‵ (fshr-bor κ₀ (λ s. arr-parts (shares T.the-row) n .part s cs b₀ o₀)) ∷ ‵ (fres γ₀ (codedHoleys T.the-row .code (heres T.the-row cs))) ∷ ‵ (at-slice T.the-row X₀ (v₀ ∷ []))
         ∷ ‵ (fobor κ₁ q₁ (Body (mem F64s) b₁ o₁ γ₁)) ∷ ‵ (Seen γ₁ xs) ∷ ‵ (fauth γ₁ (F64s .coded .code xs))
         ∷ ‵ (fobor κ₂ q₂ (Body (mem F64s) b₂ o₂ γ₂)) ∷ ‵ (Seen γ₂ ys) ∷ ‵ (fauth γ₂ (F64s .coded .code ys))
@@ -266,26 +230,26 @@ module _ {M : Type 1} (𝓤 : URA M) (H : Heap 𝓤) (A : Atoms 𝓤) (W : Given
         assigns ! (bin ! (load ! (from ! (stop !)) (look ! 41 refl)) (lit ! tt) (record { fits = eights })) (from ! (stop !)) (store ! 33 refl (tt, record { fits = eights })) $
         assigns ! (addr ! (from ! (hop ! (look ! 49 refl) (stop !)))) (from ! (stop !)) (init ! 27 refl (tt, tt)) $ assigns ! (bin ! (load ! (from ! (stop !)) (look ! 27 refl)) (load ! (from ! (stop !)) (look ! 33 refl)) tt) (from ! (stop !)) (init ! 25 refl (tt, tt)) $
         rewrite ! 25 (λ (p : ℕ). ‵ (fat fullShare tyPtr l₁₄ 0 (vptr b₁ p))) (sym (place-is 8 o₁ (i .0))) refl $ move ! (1 ∷ []) $
-        elem-out ! f64 (Is f64) (shows 𝓤 H A f64) (float-vals binary64) (float-tells binary64) fullShare (c₁ (i .0)) (i .0) nan b₁ o₁ (within₁ (i .0) l) (λ _.
+        elem-out ! f64 (Is f64) (shows 𝓤 H A f64) (float-vals binary64) (float-tells binary64) fullShare (after k₁ (i .0)) (i .0) nan b₁ o₁ (after-within k₁ (i .0) l) (λ _.
         assigns ! (of-opd ! (load ! (from ! (fld ! refl (fld ! refl (stop !)))) (look-in ! 41 (sub ! 0 refl (sub ! 0 refl (whole !)))))) (from ! (hop ! (look ! 27 refl) (stop !))) (store ! 0 refl (number (parts (elem (i .0)) g .0))) $
-        move ! (1 ∷ []) $ drop ! $ owned ! f64 (Is f64) (float-makes 𝓤 H A W binary64) (fx (elem (i .0))) _ (parts (elem (i .0)) g .0) $ move ! (1 ∷ 0 ∷ 2 ∷ []) $ elem-put ! f64 fullShare (c₁ (i .0)) (i .0) (fx (elem (i .0))) (vfloat binary64 (fx (elem (i .0))) ∷ []) b₁ o₁ (within₁ (i .0) l) $
-        rewrite ! 0 (λ (zs : List Float). ‵ (row f64 fullShare zs b₁ o₁)) (next₁ (i .0) l) refl $
+        move ! (1 ∷ []) $ drop ! $ owned ! f64 (Is f64) (float-makes 𝓤 H A W binary64) (fx (elem (i .0))) _ (parts (elem (i .0)) g .0) $ move ! (1 ∷ 0 ∷ 2 ∷ []) $ elem-put ! f64 fullShare (after k₁ (i .0)) (i .0) (fx (elem (i .0))) (vfloat binary64 (fx (elem (i .0))) ∷ []) b₁ o₁ (after-within k₁ (i .0) l) $
+        rewrite ! 0 (λ (zs : List Float). ‵ (row f64 fullShare zs b₁ o₁)) (after-next k₁ (i .0) l) refl $
         -- ys
         assigns ! (bin ! (load ! (from ! (stop !)) (look ! 41 refl)) (lit ! tt) (record { fits = eights })) (from ! (stop !)) (store ! 33 refl (tt, record { fits = eights })) $
         assigns ! (addr ! (from ! (hop ! (look ! 47 refl) (stop !)))) (from ! (stop !)) (init ! 23 refl (tt, tt)) $ assigns ! (bin ! (load ! (from ! (stop !)) (look ! 23 refl)) (load ! (from ! (stop !)) (look ! 33 refl)) tt) (from ! (stop !)) (init ! 21 refl (tt, tt)) $
         rewrite ! 21 (λ (p : ℕ). ‵ (fat fullShare tyPtr l₁₆ 0 (vptr b₂ p))) (sym (place-is 8 o₂ (i .0))) refl $ move ! (2 ∷ []) $
-        elem-out ! f64 (Is f64) (shows 𝓤 H A f64) (float-vals binary64) (float-tells binary64) fullShare (c₂ (i .0)) (i .0) nan b₂ o₂ (within₂ (i .0) l) (λ _.
+        elem-out ! f64 (Is f64) (shows 𝓤 H A f64) (float-vals binary64) (float-tells binary64) fullShare (after k₂ (i .0)) (i .0) nan b₂ o₂ (after-within k₂ (i .0) l) (λ _.
         assigns ! (of-opd ! (load ! (from ! (fld ! refl (fld ! refl (stop !)))) (look-in ! 41 (sub ! 1 refl (sub ! 0 refl (whole !)))))) (from ! (hop ! (look ! 23 refl) (stop !))) (store ! 0 refl (number (parts (elem (i .0)) g .1))) $
-        move ! (1 ∷ []) $ drop ! $ owned ! f64 (Is f64) (float-makes 𝓤 H A W binary64) (fy (elem (i .0))) _ (parts (elem (i .0)) g .1) $ move ! (1 ∷ 0 ∷ 2 ∷ []) $ elem-put ! f64 fullShare (c₂ (i .0)) (i .0) (fy (elem (i .0))) (vfloat binary64 (fy (elem (i .0))) ∷ []) b₂ o₂ (within₂ (i .0) l) $
-        rewrite ! 0 (λ (zs : List Float). ‵ (row f64 fullShare zs b₂ o₂)) (next₂ (i .0) l) refl $
+        move ! (1 ∷ []) $ drop ! $ owned ! f64 (Is f64) (float-makes 𝓤 H A W binary64) (fy (elem (i .0))) _ (parts (elem (i .0)) g .1) $ move ! (1 ∷ 0 ∷ 2 ∷ []) $ elem-put ! f64 fullShare (after k₂ (i .0)) (i .0) (fy (elem (i .0))) (vfloat binary64 (fy (elem (i .0))) ∷ []) b₂ o₂ (after-within k₂ (i .0) l) $
+        rewrite ! 0 (λ (zs : List Float). ‵ (row f64 fullShare zs b₂ o₂)) (after-next k₂ (i .0) l) refl $
         -- rs
         assigns ! (bin ! (load ! (from ! (stop !)) (look ! 41 refl)) (lit ! tt) (record { fits = eights })) (from ! (stop !)) (store ! 33 refl (tt, record { fits = eights })) $
         assigns ! (addr ! (from ! (hop ! (look ! 45 refl) (stop !)))) (from ! (stop !)) (init ! 19 refl (tt, tt)) $ assigns ! (bin ! (load ! (from ! (stop !)) (look ! 19 refl)) (load ! (from ! (stop !)) (look ! 33 refl)) tt) (from ! (stop !)) (init ! 17 refl (tt, tt)) $
         rewrite ! 17 (λ (p : ℕ). ‵ (fat fullShare tyPtr l₁₈ 0 (vptr b₃ p))) (sym (place-is 8 o₃ (i .0))) refl $ move ! (3 ∷ []) $
-        elem-out ! f64 (Is f64) (shows 𝓤 H A f64) (float-vals binary64) (float-tells binary64) fullShare (c₃ (i .0)) (i .0) nan b₃ o₃ (within₃ (i .0) l) (λ _.
+        elem-out ! f64 (Is f64) (shows 𝓤 H A f64) (float-vals binary64) (float-tells binary64) fullShare (after k₃ (i .0)) (i .0) nan b₃ o₃ (after-within k₃ (i .0) l) (λ _.
         assigns ! (of-opd ! (load ! (from ! (fld ! refl (stop !))) (look-in ! 41 (sub ! 1 refl (whole !))))) (from ! (hop ! (look ! 19 refl) (stop !))) (store ! 0 refl (number (parts (elem (i .0)) g .2))) $
-        move ! (1 ∷ []) $ drop ! $ owned ! f64 (Is f64) (float-makes 𝓤 H A W binary64) (fr (elem (i .0))) _ (parts (elem (i .0)) g .2) $ move ! (1 ∷ 0 ∷ 2 ∷ []) $ elem-put ! f64 fullShare (c₃ (i .0)) (i .0) (fr (elem (i .0))) (vfloat binary64 (fr (elem (i .0))) ∷ []) b₃ o₃ (within₃ (i .0) l) $
-        rewrite ! 0 (λ (zs : List Float). ‵ (row f64 fullShare zs b₃ o₃)) (next₃ (i .0) l) refl $
+        move ! (1 ∷ []) $ drop ! $ owned ! f64 (Is f64) (float-makes 𝓤 H A W binary64) (fr (elem (i .0))) _ (parts (elem (i .0)) g .2) $ move ! (1 ∷ 0 ∷ 2 ∷ []) $ elem-put ! f64 fullShare (after k₃ (i .0)) (i .0) (fr (elem (i .0))) (vfloat binary64 (fr (elem (i .0))) ∷ []) b₃ o₃ (after-within k₃ (i .0) l) $
+        rewrite ! 0 (λ (zs : List Float). ‵ (row f64 fullShare zs b₃ o₃)) (after-next k₃ (i .0) l) refl $
         move ! (3 ∷ 2 ∷ 1 ∷ 0 ∷ []) $ assigns-last ! (bin ! (load ! (from ! (stop !)) (look ! 41 refl)) (lit ! tt) (record { fits = next-fits })) (from ! (stop !)) (store ! 41 refl (tt, record { fits = next-fits })) $
         forget ! 39 refl $ forget ! 35 refl $ forget ! 33 refl $ forget ! 31 refl $ forget ! 29 refl $ forget ! 27 refl $ forget ! 25 refl $ forget ! 23 refl $ forget ! 21 refl $ forget ! 19 refl $ forget ! 17 refl $
         again ! Nearer At i (i .0 + 1, add-one-le l) (add-one-dec end (i .0) l)))))
@@ -317,13 +281,13 @@ module _ {M : Type 1} (𝓤 : URA M) (H : Heap 𝓤) (A : Atoms 𝓤) (W : Given
         assigns ! (of-opd ! (load ! (from ! (fld ! refl (stop !))) (look-in ! 51 (sub ! 1 refl (whole !))))) (from ! (stop !)) (store ! 37 refl (tt, record { fits = g₀ .0 })) $
         asks-refusal ! (fmOf 𝓤 H (W .laws) 𝓣) at-mem run known-refusal n (g₀ .0) (λ p. and-then ! (load ! (from ! (stop !)) (look ! 38 refl)) (no-more !)) (λ small. land ! (from ! (stop !)) (init ! 53 refl (tt, record { fits = small })) $
         move ! (0 ∷ 4 ∷ []) $ shuts-slice ! tt T.the-row q′ cs b₀ o₀ $
-        move ! (1 ∷ 7 ∷ 8 ∷ 9 ∷ []) $ closes-array ! tt maxCircles (c₁ (i .0)) (long₁ (i .0) (i .1)) b₁ o₁ $
-        move ! (4 ∷ 9 ∷ 10 ∷ 11 ∷ []) $ closes-array ! tt maxCircles (c₂ (i .0)) (long₂ (i .0) (i .1)) b₂ o₂ $
-        move ! (7 ∷ 11 ∷ 12 ∷ 13 ∷ []) $ closes-array ! tt maxCircles (c₃ (i .0)) (long₃ (i .0) (i .1)) b₃ o₃ $
+        move ! (1 ∷ 7 ∷ 8 ∷ 9 ∷ []) $ closes-array ! tt maxCircles (after k₁ (i .0)) (after-long k₁ (i .0) (i .1)) b₁ o₁ $
+        move ! (4 ∷ 9 ∷ 10 ∷ 11 ∷ []) $ closes-array ! tt maxCircles (after k₂ (i .0)) (after-long k₂ (i .0) (i .1)) b₂ o₂ $
+        move ! (7 ∷ 11 ∷ 12 ∷ 13 ∷ []) $ closes-array ! tt maxCircles (after k₃ (i .0)) (after-long k₃ (i .0) (i .1)) b₃ o₃ $
         returns ! (look ! 49 refl) $ forget ! 49 refl $ forget ! 47 refl $ forget ! 45 refl $ forget ! 43 refl $ forget ! 41 refl $ forget ! 39 refl $ forget ! 37 refl $ forget ! 33 refl $ forget ! 31 refl $
         move ! (49 ∷ 50 ∷ []) $ free1 ! $ move ! (47 ∷ 48 ∷ []) $ free1 ! $ move ! (45 ∷ 46 ∷ []) $ free1 ! $ move ! (43 ∷ 44 ∷ []) $ free1 ! $ move ! (41 ∷ 42 ∷ []) $ free1 ! $ move ! (39 ∷ 40 ∷ []) $ free1 ! $ move ! (37 ∷ 38 ∷ []) $ free1 ! $ move ! (35 ∷ 36 ∷ []) $ free1 ! $ move ! (33 ∷ 34 ∷ []) $ free1 ! $ move ! (31 ∷ 32 ∷ []) $ free1 ! $ move ! (29 ∷ 30 ∷ []) $ free1 ! $ move ! (27 ∷ 28 ∷ []) $ free1 ! $ move ! (25 ∷ 26 ∷ []) $ free1 ! $ move ! (23 ∷ 24 ∷ []) $ free1 ! $ move ! (21 ∷ 22 ∷ []) $ free1 ! $ move ! (19 ∷ 20 ∷ []) $ free1 ! $ move ! (17 ∷ 18 ∷ []) $ free1 ! $ move ! (15 ∷ 16 ∷ []) $ free1 ! $ move ! (13 ∷ 14 ∷ []) $ free1 ! $ free0 ! $
         move ! (11 ∷ 10 ∷ []) $ fjoin ! $ move ! (11 ∷ 0 ∷ []) $ fjoin ! $ keep ! (7 ∷ 8 ∷ 4 ∷ 5 ∷ 1 ∷ 2 ∷ 0 ∷ 10 ∷ 9 ∷ 6 ∷ 3 ∷ []) $
-        by ! (exits (c₁ (i .0)) (c₂ (i .0)) (c₃ (i .0)) small (ap c₁ e ∙ all₁) (ap c₂ e ∙ all₂) (ap c₃ e ∙ all₃)))
+        by ! (exits (after k₁ (i .0)) (after k₂ (i .0)) (after k₃ (i .0)) small (ap (after k₁) e ∙ after-all k₁) (ap (after k₂) e ∙ after-all k₂) (ap (after k₃) e ∙ after-all k₃)))
 
     turns : (i : Upto) → Sq W (At i) (runs C Λ En body.turn-1 (anyQ (Turned i)))
     turns i = ⊎-elim (ends i) (more i) (eq-or-lt-of-le (i .1))

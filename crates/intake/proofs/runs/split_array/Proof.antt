@@ -2,7 +2,7 @@
 use mathlib.Core.Path.{_≡_, sym, _∙_}
 use borrow.Author.Needs.{needs}
 use Rattle.scope.specs.Limits.{circleCap}
-use Rattle.intake.proofs.Checking.{few}
+use Rattle.intake.proofs.Counted.{few}
 use Rattle.intake.proofs.runs.split_array.Statement.{statement}
 use Rattle.intake.proofs.runs.split_array.Tie as tie
 

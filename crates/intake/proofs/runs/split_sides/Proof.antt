@@ -61,7 +61,7 @@ use Rattle.intake.specs.Splits.{takenOf, countRefusal}
 use Rattle.intake.proofs.Lending.{refTo}
 use Rattle.intake.proofs.NumberArrays.{IsF, F64s, numbersTy, opens-array, closes-array}
 use Rattle.intake.proofs.TakenCalls.{TakenContract, RefusalContract, asks-taken, asks-refusal}
-use Rattle.intake.proofs.Splitting.{splitOf, taken-few, column, column-length, column-within, column-next, column-all}
+use Rattle.intake.proofs.Splitting.{splitOf, taken-few, Column, after, after-long, after-within, after-next, after-all}
 use Rattle.intake.proofs.runs.taken.Symbol as taken-def
 use Rattle.intake.proofs.runs.taken.Symbol.{name as #taken}
 use Rattle.intake.proofs.runs.taken.Met as taken-thm
@@ -167,36 +167,12 @@ module _ {M : Type 1} (𝓤 : URA M) (H : Heap 𝓤) (A : Atoms 𝓤) (W : Given
   array j = tyRef (named j) mut (numbersTy maxCircles)
 
   module _ (𝓣 : Tables 𝓤 H) (known-refusal : Triple 𝓤 (𝓣 .C #refusal) (RefusalContract 𝓤 H A at-mem run)) (q′ : Share) (e₁ : length ws ≡ maxCircles) (e₂ : length hs ≡ maxCircles) (l₀ l₁ l₂ l₃ l₄ l₅ l₆ l₇ l₈ l₉ l₁₀ l₁₁ l₁₂ l₁₃ l₁₄ l₁₅ : ℕ) where
-    -- the columns after i turns
-    abbrev c₁ : ℕ → List Float
-    c₁ = column fw cs none nan (widthsOf cs) (length-widths cs) (width-at cs) ws e₁
+    -- the columns
+    abbrev k₁ : Column cs none ws
+    k₁ = record { of = fw; column = widthsOf cs; long = length-widths cs; same = width-at cs; wide = e₁ }
 
-    long₁ : (i : ℕ) → i ≤ end → length (c₁ i) ≡ maxCircles
-    long₁ i h = column-length fw cs none nan (widthsOf cs) (length-widths cs) (width-at cs) ws e₁ i h ∙ e₁
-
-    within₁ : (i : ℕ) → i < end → i < length (c₁ i)
-    within₁ = column-within fw cs none nan (widthsOf cs) (length-widths cs) (width-at cs) ws e₁
-
-    next₁ : (i : ℕ) → i < end → set (c₁ i) i (fw (elem i)) ≡ c₁ (i + 1)
-    next₁ = column-next fw cs none nan (widthsOf cs) (length-widths cs) (width-at cs) ws e₁
-
-    all₁ : c₁ end ≡ splitOf widthsOf cs ws
-    all₁ = column-all fw cs none nan (widthsOf cs) (length-widths cs) (width-at cs) ws e₁
-
-    abbrev c₂ : ℕ → List Float
-    c₂ = column fh cs none nan (heightsOf cs) (length-heights cs) (height-at cs) hs e₂
-
-    long₂ : (i : ℕ) → i ≤ end → length (c₂ i) ≡ maxCircles
-    long₂ i h = column-length fh cs none nan (heightsOf cs) (length-heights cs) (height-at cs) hs e₂ i h ∙ e₂
-
-    within₂ : (i : ℕ) → i < end → i < length (c₂ i)
-    within₂ = column-within fh cs none nan (heightsOf cs) (length-heights cs) (height-at cs) hs e₂
-
-    next₂ : (i : ℕ) → i < end → set (c₂ i) i (fh (elem i)) ≡ c₂ (i + 1)
-    next₂ = column-next fh cs none nan (heightsOf cs) (length-heights cs) (height-at cs) hs e₂
-
-    all₂ : c₂ end ≡ splitOf heightsOf cs hs
-    all₂ = column-all fh cs none nan (heightsOf cs) (length-heights cs) (height-at cs) hs e₂
+    abbrev k₂ : Column cs none hs
+    k₂ = record { of = fh; column = heightsOf cs; long = length-heights cs; same = height-at cs; wide = e₂ }
 
     abbrev C : Calls 𝓤 H
     C = 𝓣 .C
@@ -209,7 +185,7 @@ module _ {M : Type 1} (𝓤 : URA M) (H : Heap 𝓤) (A : Atoms 𝓤) (W : Given
 
     -- the rows, what shuts each, and the locals, last first
     abbrev At : Upto → List (Item 𝓤)
-    At i = ‵ (row T.the-row q′ cs b₀ o₀) ∷ ‵ (row f64 fullShare (c₁ (i .0)) b₁ o₁) ∷ ‵ (row f64 fullShare (c₂ (i .0)) b₂ o₂)
+    At i = ‵ (row T.the-row q′ cs b₀ o₀) ∷ ‵ (row f64 fullShare (after k₁ (i .0)) b₁ o₁) ∷ ‵ (row f64 fullShare (after k₂ (i .0)) b₂ o₂)
         ∷ ‵ (fobor κ₀ q₀ (arr-parts (shares T.the-row) n .part q′ cs b₀ o₀)) ∷ ‵ (fshr-bor κ₀ (λ s. arr-parts (shares T.the-row) n .part s cs b₀ o₀)) ∷ ‵ (fres γ₀ (codedHoleys T.the-row .code (heres T.the-row cs))) ∷ ‵ (at-slice T.the-row X₀ (v₀ ∷ []))
         ∷ ‵ (fobor κ₁ q₁ (Body (mem F64s) b₁ o₁ γ₁)) ∷ ‵ (Seen γ₁ ws) ∷ ‵ (fauth γ₁ (F64s .coded .code ws))
         ∷ ‵ (fobor κ₂ q₂ (Body (mem F64s) b₂ o₂ γ₂)) ∷ ‵ (Seen γ₂ hs) ∷ ‵ (fauth γ₂ (F64s .coded .code hs))
@@ -235,18 +211,18 @@ module _ {M : Type 1} (𝓤 : URA M) (H : Heap 𝓤) (A : Atoms 𝓤) (W : Given
         assigns ! (bin ! (load ! (from ! (stop !)) (look ! 33 refl)) (lit ! tt) (record { fits = eights })) (from ! (stop !)) (store ! 25 refl (tt, record { fits = eights })) $
         assigns ! (addr ! (from ! (hop ! (look ! 39 refl) (stop !)))) (from ! (stop !)) (init ! 19 refl (tt, tt)) $ assigns ! (bin ! (load ! (from ! (stop !)) (look ! 19 refl)) (load ! (from ! (stop !)) (look ! 25 refl)) tt) (from ! (stop !)) (init ! 17 refl (tt, tt)) $
         rewrite ! 17 (λ (p : ℕ). ‵ (fat fullShare tyPtr l₁₃ 0 (vptr b₁ p))) (sym (place-is 8 o₁ (i .0))) refl $ move ! (1 ∷ []) $
-        elem-out ! f64 (Is f64) (shows 𝓤 H A f64) (float-vals binary64) (float-tells binary64) fullShare (c₁ (i .0)) (i .0) nan b₁ o₁ (within₁ (i .0) l) (λ _.
+        elem-out ! f64 (Is f64) (shows 𝓤 H A f64) (float-vals binary64) (float-tells binary64) fullShare (after k₁ (i .0)) (i .0) nan b₁ o₁ (after-within k₁ (i .0) l) (λ _.
         assigns ! (of-opd ! (load ! (from ! (fld ! refl (stop !))) (look-in ! 33 (sub ! 1 refl (whole !))))) (from ! (hop ! (look ! 19 refl) (stop !))) (store ! 0 refl (number (parts (elem (i .0)) g .0))) $
-        move ! (1 ∷ []) $ drop ! $ owned ! f64 (Is f64) (float-makes 𝓤 H A W binary64) (fw (elem (i .0))) _ (parts (elem (i .0)) g .0) $ move ! (1 ∷ 0 ∷ 2 ∷ []) $ elem-put ! f64 fullShare (c₁ (i .0)) (i .0) (fw (elem (i .0))) (vfloat binary64 (fw (elem (i .0))) ∷ []) b₁ o₁ (within₁ (i .0) l) $
-        rewrite ! 0 (λ (zs : List Float). ‵ (row f64 fullShare zs b₁ o₁)) (next₁ (i .0) l) refl $
+        move ! (1 ∷ []) $ drop ! $ owned ! f64 (Is f64) (float-makes 𝓤 H A W binary64) (fw (elem (i .0))) _ (parts (elem (i .0)) g .0) $ move ! (1 ∷ 0 ∷ 2 ∷ []) $ elem-put ! f64 fullShare (after k₁ (i .0)) (i .0) (fw (elem (i .0))) (vfloat binary64 (fw (elem (i .0))) ∷ []) b₁ o₁ (after-within k₁ (i .0) l) $
+        rewrite ! 0 (λ (zs : List Float). ‵ (row f64 fullShare zs b₁ o₁)) (after-next k₁ (i .0) l) refl $
         -- hs
         assigns ! (bin ! (load ! (from ! (stop !)) (look ! 33 refl)) (lit ! tt) (record { fits = eights })) (from ! (stop !)) (store ! 25 refl (tt, record { fits = eights })) $
         assigns ! (addr ! (from ! (hop ! (look ! 37 refl) (stop !)))) (from ! (stop !)) (init ! 15 refl (tt, tt)) $ assigns ! (bin ! (load ! (from ! (stop !)) (look ! 15 refl)) (load ! (from ! (stop !)) (look ! 25 refl)) tt) (from ! (stop !)) (init ! 13 refl (tt, tt)) $
         rewrite ! 13 (λ (p : ℕ). ‵ (fat fullShare tyPtr l₁₅ 0 (vptr b₂ p))) (sym (place-is 8 o₂ (i .0))) refl $ move ! (2 ∷ []) $
-        elem-out ! f64 (Is f64) (shows 𝓤 H A f64) (float-vals binary64) (float-tells binary64) fullShare (c₂ (i .0)) (i .0) nan b₂ o₂ (within₂ (i .0) l) (λ _.
+        elem-out ! f64 (Is f64) (shows 𝓤 H A f64) (float-vals binary64) (float-tells binary64) fullShare (after k₂ (i .0)) (i .0) nan b₂ o₂ (after-within k₂ (i .0) l) (λ _.
         assigns ! (of-opd ! (load ! (from ! (fld ! refl (stop !))) (look-in ! 33 (sub ! 2 refl (whole !))))) (from ! (hop ! (look ! 15 refl) (stop !))) (store ! 0 refl (number (parts (elem (i .0)) g .1))) $
-        move ! (1 ∷ []) $ drop ! $ owned ! f64 (Is f64) (float-makes 𝓤 H A W binary64) (fh (elem (i .0))) _ (parts (elem (i .0)) g .1) $ move ! (1 ∷ 0 ∷ 2 ∷ []) $ elem-put ! f64 fullShare (c₂ (i .0)) (i .0) (fh (elem (i .0))) (vfloat binary64 (fh (elem (i .0))) ∷ []) b₂ o₂ (within₂ (i .0) l) $
-        rewrite ! 0 (λ (zs : List Float). ‵ (row f64 fullShare zs b₂ o₂)) (next₂ (i .0) l) refl $
+        move ! (1 ∷ []) $ drop ! $ owned ! f64 (Is f64) (float-makes 𝓤 H A W binary64) (fh (elem (i .0))) _ (parts (elem (i .0)) g .1) $ move ! (1 ∷ 0 ∷ 2 ∷ []) $ elem-put ! f64 fullShare (after k₂ (i .0)) (i .0) (fh (elem (i .0))) (vfloat binary64 (fh (elem (i .0))) ∷ []) b₂ o₂ (after-within k₂ (i .0) l) $
+        rewrite ! 0 (λ (zs : List Float). ‵ (row f64 fullShare zs b₂ o₂)) (after-next k₂ (i .0) l) refl $
         move ! (2 ∷ 1 ∷ 0 ∷ []) $ assigns-last ! (bin ! (load ! (from ! (stop !)) (look ! 33 refl)) (lit ! tt) (record { fits = next-fits })) (from ! (stop !)) (store ! 33 refl (tt, record { fits = next-fits })) $
         forget ! 31 refl $ forget ! 27 refl $ forget ! 25 refl $ forget ! 23 refl $ forget ! 21 refl $ forget ! 19 refl $ forget ! 17 refl $ forget ! 15 refl $ forget ! 13 refl $
         again ! Nearer At i (i .0 + 1, add-one-le l) (add-one-dec end (i .0) l))))
@@ -278,12 +254,12 @@ module _ {M : Type 1} (𝓤 : URA M) (H : Heap 𝓤) (A : Atoms 𝓤) (W : Given
         assigns ! (of-opd ! (load ! (from ! (fld ! refl (stop !))) (look-in ! 41 (sub ! 1 refl (whole !))))) (from ! (stop !)) (store ! 29 refl (tt, record { fits = g₀ .0 })) $
         asks-refusal ! (fmOf 𝓤 H (W .laws) 𝓣) at-mem run known-refusal n (g₀ .0) (λ p. and-then ! (load ! (from ! (stop !)) (look ! 30 refl)) (no-more !)) (λ small. land ! (from ! (stop !)) (init ! 43 refl (tt, record { fits = small })) $
         move ! (0 ∷ 3 ∷ []) $ shuts-slice ! tt T.the-row q′ cs b₀ o₀ $
-        move ! (1 ∷ 6 ∷ 7 ∷ 8 ∷ []) $ closes-array ! tt maxCircles (c₁ (i .0)) (long₁ (i .0) (i .1)) b₁ o₁ $
-        move ! (4 ∷ 8 ∷ 9 ∷ 10 ∷ []) $ closes-array ! tt maxCircles (c₂ (i .0)) (long₂ (i .0) (i .1)) b₂ o₂ $
+        move ! (1 ∷ 6 ∷ 7 ∷ 8 ∷ []) $ closes-array ! tt maxCircles (after k₁ (i .0)) (after-long k₁ (i .0) (i .1)) b₁ o₁ $
+        move ! (4 ∷ 8 ∷ 9 ∷ 10 ∷ []) $ closes-array ! tt maxCircles (after k₂ (i .0)) (after-long k₂ (i .0) (i .1)) b₂ o₂ $
         returns ! (look ! 40 refl) $ forget ! 40 refl $ forget ! 38 refl $ forget ! 36 refl $ forget ! 34 refl $ forget ! 32 refl $ forget ! 30 refl $ forget ! 26 refl $ forget ! 24 refl $
         move ! (40 ∷ 41 ∷ []) $ free1 ! $ move ! (38 ∷ 39 ∷ []) $ free1 ! $ move ! (36 ∷ 37 ∷ []) $ free1 ! $ move ! (34 ∷ 35 ∷ []) $ free1 ! $ move ! (32 ∷ 33 ∷ []) $ free1 ! $ move ! (30 ∷ 31 ∷ []) $ free1 ! $ move ! (28 ∷ 29 ∷ []) $ free1 ! $ move ! (26 ∷ 27 ∷ []) $ free1 ! $ move ! (24 ∷ 25 ∷ []) $ free1 ! $ move ! (22 ∷ 23 ∷ []) $ free1 ! $ move ! (20 ∷ 21 ∷ []) $ free1 ! $ move ! (18 ∷ 19 ∷ []) $ free1 ! $ move ! (16 ∷ 17 ∷ []) $ free1 ! $ move ! (14 ∷ 15 ∷ []) $ free1 ! $ move ! (12 ∷ 13 ∷ []) $ free1 ! $ move ! (10 ∷ 11 ∷ []) $ free1 ! $ free0 ! $
         move ! (8 ∷ 7 ∷ []) $ fjoin ! $ move ! (8 ∷ 0 ∷ []) $ fjoin ! $ keep ! (4 ∷ 5 ∷ 1 ∷ 2 ∷ 0 ∷ 7 ∷ 6 ∷ 3 ∷ []) $
-        by ! (exits (c₁ (i .0)) (c₂ (i .0)) small (ap c₁ e ∙ all₁) (ap c₂ e ∙ all₂)))
+        by ! (exits (after k₁ (i .0)) (after k₂ (i .0)) small (ap (after k₁) e ∙ after-all k₁) (ap (after k₂) e ∙ after-all k₂)))
 
     turns : (i : Upto) → Sq W (At i) (runs C Λ En body.turn-1 (anyQ (Turned i)))
     turns i = ⊎-elim (ends i) (more i) (eq-or-lt-of-le (i .1))
