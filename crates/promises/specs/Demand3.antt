@@ -1,6 +1,6 @@
 -- Demand 3 of the whole layout: the four promises of every accepted call, and the bounds that they hold with.
-use Prim.Native.Nat.{ℕ, _<_}
-use mathlib.Core.Path.{_≡_}
+use Prim.Native.Nat.{ℕ, _*_, _<_, _^_}
+use mathlib.Core.Path.{_≡_, refl}
 use mathlib.Core.Logic.{_⊎_, _≢_}
 use mathlib.Core.List.{List}
 use lib.Dec.{T}
@@ -17,6 +17,10 @@ use Rattle.scope.specs.Promises.{Promises, numberOf, units, xAxis, yAxis, gapOn
 -- 1/65,536 mm, in units of 2^-1074
 abbrev pub bound : ℕ
 bound = pow2 44
+
+pub bound-is-one-65536th : 65536 * bound ≡ 2 ^ 1074
+unfolding pow2
+bound-is-one-65536th = refl
 
 -- 2^-19 mm: what the gap is really short of the padding by, at most
 abbrev pub gapBound : ℕ
