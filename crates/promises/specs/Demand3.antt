@@ -8,7 +8,7 @@ use mathlib.Core.Option.{some}
 use lib.Dec.{T}
 use lib.ListN.{length}
 use lib.Ieee.{Float, binary64, fits}
-use Rattle.algebra.specs.Integer.{Z, nat, _⊕_, _⊖_, _⊗_, _≼_}
+use Rattle.algebra.specs.Integer.{nat, _⊕_, _⊖_, _⊗_, _≼_}
 use Rattle.rounding.specs.Scale.{pow2}
 use Rattle.shapes.specs.declared.circle.Circle.{Circle}
 use Rattle.scope.specs.Runs.{bit}
@@ -55,8 +55,8 @@ GapKept = OfEveryLayout λ handed rs result returned. (i j : ℕ) → i < length
     → (units (result .padding) ⊖ nat bound ≼ gapOn xAxis (circle returned i) (circle returned j))
     ⊎ (units (result .padding) ⊖ nat bound ≼ gapOn yAxis (circle returned i) (circle returned j))
 
--- distance: two circles of one cluster, neither of them moved, are as far apart as they came in, within t. With d and e the squares as handed in and as returned,
--- d - e - t^2 is not above 0 or has a square of at most 4*t^2*e, and the same with d and e changed over.
+-- distance: two circles of one cluster, neither of them moved, are as far apart as they came in, within t. With d and e the squares as handed in and as
+-- returned, d - e - t^2 is not above 0 or has a square of at most 4*t^2*e, and the same with d and e changed over.
 unfoldable pub DistanceKept : Type 0
 DistanceKept = OfEveryLayout λ handed rs result returned. (i j : ℕ) → i < length handed → j < length handed → numberOf result i ≡ numberOf result j
     → T (not (bit (result .moved) i)) → T (not (bit (result .moved) j))
