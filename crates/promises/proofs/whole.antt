@@ -3,3 +3,4 @@ pub mod Kept
 pub mod SixtyFour
 pub mod Demand3
 pub mod PackingAccepts
+pub mod Duds

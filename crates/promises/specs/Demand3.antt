@@ -1,22 +1,31 @@
--- Demand 3 of the whole layout: the four promises of every accepted call, and the bounds that they hold with.
-use Prim.Native.Nat.{ℕ, _<_}
-use mathlib.Core.Path.{_≡_}
-use mathlib.Core.Logic.{_⊎_, _≢_}
+-- Demand 3 of the whole layout: the four promises of every accepted call, together and each written out, and the bounds that they hold with.
+use Prim.Native.Nat.{ℕ, _*_, _<_, _^_}
+use mathlib.Core.Path.{_≡_, refl}
+use mathlib.Core.Logic.{_⊎_, _↔_, _≢_}
+use mathlib.Core.Bool.{not}
 use mathlib.Core.List.{List}
+use mathlib.Core.Option.{some}
 use lib.Dec.{T}
 use lib.ListN.{length}
 use lib.Ieee.{Float, binary64, fits}
-use Rattle.algebra.specs.Integer.{nat, _⊖_, _≼_}
+use Rattle.algebra.specs.Integer.{nat, _⊕_, _⊖_, _⊗_, _≼_}
 use Rattle.rounding.specs.Scale.{pow2}
 use Rattle.shapes.specs.declared.circle.Circle.{Circle}
+use Rattle.scope.specs.Runs.{bit}
 use Rattle.scope.specs.Refusals.{layoutRefusal}
-use Rattle.scope.specs.Links.{regions, circle}
-use Rattle.scope.specs.Layout.{layout}
-use Rattle.scope.specs.Promises.{Promises, numberOf, units, xAxis, yAxis, gapOn}
+use Rattle.scope.specs.Links.{Region, regions, circle}
+use Rattle.scope.specs.Tolerance.{tolerance}
+use Rattle.scope.specs.Offset.{parentOf}
+use Rattle.scope.specs.Layout.{Result, layout}
+use Rattle.scope.specs.Promises.{Promises, Chain, numberOf, units, xAxis, yAxis, gapOn, square, squaredDistance}
 
 -- 1/65,536 mm, in units of 2^-1074
 abbrev pub bound : ℕ
 bound = pow2 44
+
+pub bound-is-one-65536th : 65536 * bound ≡ 2 ^ 1074
+unfolding pow2
+bound-is-one-65536th = refl
 
 -- 2^-19 mm: what the gap is really short of the padding by, at most
 abbrev pub gapBound : ℕ
@@ -29,18 +38,41 @@ pub record AreDoubles (cs : List Circle) (given : Float) : Type 0 where
   pub radius : (i : ℕ) → i < length cs → T (fits binary64 (circle cs i .radius))
   pub factor : T (fits binary64 given)
 
--- for every accepted call, with no other premise
-unfoldable pub Demand3 : Type 0
-Demand3 =
+-- for every accepted call, with no other premise: of the circles as handed in, the regions, the returned record and the circles as returned
+abbrev pub OfEveryLayout : (List Circle → List Region → Result → List Circle → Type 0) → Type 0
+OfEveryLayout Promised =
     (cs : List Circle) (factor : Float) (masks : List ℕ) (areas : List Float) → AreDoubles cs factor → layoutRefusal cs factor masks areas ≡ 0
-    → Promises bound cs (regions masks areas) (layout cs factor masks areas .result) (layout cs factor masks areas .circles)
+    → Promised cs (regions masks areas) (layout cs factor masks areas .result) (layout cs factor masks areas .circles)
 
--- the gap clause written out: circles of different clusters are the padding apart on one axis at least
-unfoldable pub Apart : Type 0
-Apart =
-    (cs : List Circle) (factor : Float) (masks : List ℕ) (areas : List Float) → AreDoubles cs factor → layoutRefusal cs factor masks areas ≡ 0 → (i j : ℕ)
-    → i < length cs → j < length cs
-    → numberOf bound cs (regions masks areas) (layout cs factor masks areas .result) (layout cs factor masks areas .circles) i
-    ≢ numberOf bound cs (regions masks areas) (layout cs factor masks areas .result) (layout cs factor masks areas .circles) j
-    → (units (layout cs factor masks areas .result .padding) ⊖ nat bound ≼ gapOn xAxis (circle (layout cs factor masks areas .circles) i) (circle (layout cs factor masks areas .circles) j))
-    ⊎ (units (layout cs factor masks areas .result .padding) ⊖ nat bound ≼ gapOn yAxis (circle (layout cs factor masks areas .circles) i) (circle (layout cs factor masks areas .circles) j))
+unfoldable pub Demand3 : Type 0
+Demand3 = OfEveryLayout (Promises bound)
+
+-- ---- the four clauses, each with all that it says
+
+-- gap: circles of different clusters are the padding apart on one axis at least
+unfoldable pub GapKept : Type 0
+GapKept = OfEveryLayout λ handed rs result returned. (i j : ℕ) → i < length handed → j < length handed → numberOf result i ≢ numberOf result j
+    → (units (result .padding) ⊖ nat bound ≼ gapOn xAxis (circle returned i) (circle returned j))
+    ⊎ (units (result .padding) ⊖ nat bound ≼ gapOn yAxis (circle returned i) (circle returned j))
+
+-- distance: two circles of one cluster, neither of them moved, are as far apart as they came in, within t. With d and e the squares as handed in and as
+-- returned, d - e - t^2 is not above 0 or has a square of at most 4*t^2*e, and the same with d and e changed over.
+unfoldable pub DistanceKept : Type 0
+DistanceKept = OfEveryLayout λ handed rs result returned. (i j : ℕ) → i < length handed → j < length handed → numberOf result i ≡ numberOf result j
+    → T (not (bit (result .moved) i)) → T (not (bit (result .moved) j))
+    → let d = squaredDistance (circle handed i) (circle handed j) in
+    let e = squaredDistance (circle returned i) (circle returned j) in
+    ((d ⊖ e ⊖ nat (bound * bound) ≼ nat 0) ⊎ (square (d ⊖ e ⊖ nat (bound * bound)) ≼ nat (4 * (bound * bound)) ⊗ e))
+    × ((e ⊖ d ⊖ nat (bound * bound) ≼ nat 0) ⊎ (square (e ⊖ d ⊖ nat (bound * bound)) ≼ nat (4 * (bound * bound)) ⊗ d))
+
+-- reach: a moved circle has a parent in the offset step, and with R and r their radii R + t - r is not below 0 and covers the distance of their centres
+unfoldable pub ReachKept : Type 0
+ReachKept = OfEveryLayout λ handed rs result returned. (i : ℕ) → i < length handed → T (bit (result .moved) i)
+    → (p : ℕ) × (parentOf (length handed) rs i ≡ some p)
+    × (nat 0 ≼ units (circle returned p .radius) ⊕ nat bound ⊖ units (circle returned i .radius))
+    × (squaredDistance (circle returned p) (circle returned i) ≼ square (units (circle returned p .radius) ⊕ nat bound ⊖ units (circle returned i .radius)))
+
+-- chain: two circles have one cluster number exactly if they are the same circle or a chain of regions joins them
+unfoldable pub ChainKept : Type 0
+ChainKept = OfEveryLayout λ handed rs result returned. (i j : ℕ) → i < length handed → j < length handed
+    → (numberOf result i ≡ numberOf result j) ↔ ((i ≡ j) ⊎ Chain (length handed) (tolerance rs) rs i j)

@@ -1,15 +1,15 @@
 -- More samples, proved by computation: document 01's "By program" and "Mistakes to catch", each refusal of the card reader, and ends of ranges.
 use Prim.Native.Nat.{ℕ, _/_, _%_, _^_}
 use mathlib.Core.Path.{_≡_, refl}
-use mathlib.Core.Bool.{true, false}
-use mathlib.Core.List.{List, [], _∷_, _++_}
+use mathlib.Core.Bool.{Bool, true, false}
+use mathlib.Core.List.{List, [], _∷_, _++_, map}
 use lib.IntN.{negsuc}
 use lib.ListN.{replicate, take}
 use lib.Ieee.{Float, nan, inf, fin, binary64, neg, ofBits, toBits}
 use Rattle.shapes.specs.declared.rectangle.Rectangle.{Rectangle}
 use Rattle.scope.specs.Numbers.{nought, one, half, whole, e-10}
 use Rattle.scope.specs.Runs.{tab, filled}
-use Rattle.scope.specs.Limits.{circleCap, coordinateOk, radiusOk, factorOk}
+use Rattle.scope.specs.Limits.{circleCap, coordinateOk, radiusOk, factorOk, sideOk, paddingOk}
 use Rattle.scope.specs.Refusals.{refused, given, layoutRefusal}
 use Rattle.shapes.specs.Records.{pointAt, circleOf, rectangleOf}
 use Rattle.scope.specs.Distance.{rootAnswer, distanceAnswer, circleDistanceAnswer, containsPointAnswer}
@@ -26,19 +26,34 @@ use Rattle.scope.specs.Samples.{wholeCircle, grouped, fileJ}
 
 -- ---- ranges and root
 
+-- which f64 pass, each given by its bits
+abbrev pub passing : (Float → Bool) → List ℕ → List Bool
+passing ok patterns = map (λ p. ok (ofBits binary64 p)) patterns
+
+-- the bits of -0, and of the f64 next below it, -5e-324
+abbrev pub minusZero : ℕ
+minusZero = 0x8000_0000_0000_0000
+
+abbrev pub belowZero : ℕ
+belowZero = 0x8000_0000_0000_0001
+
 pub record RangeChecks : Type 0 where
-  -- "Coordinate 1048576 passes, the next f64 gives 3."
-  pub coordinate-end : coordinateOk (ofBits binary64 0x4130_0000_0000_0000) ≡ true
-  pub coordinate-past : coordinateOk (ofBits binary64 0x4130_0000_0000_0001) ≡ false
+  -- "Coordinate 1048576 passes, the next f64 gives 3." So too below 0.
+  pub coordinate-ends : passing coordinateOk (0x4130_0000_0000_0000 ∷ 0xc130_0000_0000_0000 ∷ []) ≡ true ∷ true ∷ []
+  pub coordinate-past : passing coordinateOk (0x4130_0000_0000_0001 ∷ 0xc130_0000_0000_0001 ∷ []) ≡ false ∷ false ∷ []
   pub coordinate-nan : coordinateOk nan ≡ false
   pub coordinate-inf : coordinateOk (inf true) ≡ false
-  -- 2^-20 passes, the f64 below does not, nor does -0
-  pub radius-end : radiusOk (ofBits binary64 0x3eb0_0000_0000_0000) ≡ true
-  pub radius-below : radiusOk (ofBits binary64 0x3eaf_ffff_ffff_ffff) ≡ false
+  -- 2^-20 and 2^20 pass, the f64 beyond each does not, nor does -0
+  pub radius-ends : passing radiusOk (0x3eb0_0000_0000_0000 ∷ 0x4130_0000_0000_0000 ∷ []) ≡ true ∷ true ∷ []
+  pub radius-past : passing radiusOk (0x3eaf_ffff_ffff_ffff ∷ 0x4130_0000_0000_0001 ∷ []) ≡ false ∷ false ∷ []
   pub radius-zero : radiusOk (neg nought) ≡ false
-  -- "-0 counts as 0"
-  pub factor-zero : factorOk (neg nought) ≡ true
-  pub factor-past : factorOk (ofBits binary64 0x3ff0_0000_0000_0001) ≡ false
+  -- "-0 counts as 0": -0, 0 and the upper end (1, 2^23, 2^26) pass, and -5e-324 and the f64 past that end do not
+  pub factor-ends : passing factorOk (minusZero ∷ 0 ∷ 0x3ff0_0000_0000_0000 ∷ []) ≡ true ∷ true ∷ true ∷ []
+  pub factor-past : passing factorOk (belowZero ∷ 0x3ff0_0000_0000_0001 ∷ []) ≡ false ∷ false ∷ []
+  pub side-ends : passing sideOk (minusZero ∷ 0 ∷ 0x4160_0000_0000_0000 ∷ []) ≡ true ∷ true ∷ true ∷ []
+  pub side-past : passing sideOk (belowZero ∷ 0x4160_0000_0000_0001 ∷ []) ≡ false ∷ false ∷ []
+  pub padding-ends : passing paddingOk (minusZero ∷ 0 ∷ 0x4190_0000_0000_0000 ∷ []) ≡ true ∷ true ∷ true ∷ []
+  pub padding-past : passing paddingOk (belowZero ∷ 0x4190_0000_0000_0001 ∷ []) ≡ false ∷ false ∷ []
   -- 12
   pub root-nan : rootAnswer nan ≡ refused 12
   pub root-below : rootAnswer (neg one) ≡ refused 12
@@ -58,15 +73,19 @@ pub ranges : RangeChecks
 unfolding computing
 ranges =
     record {
-      coordinate-end = refl;
+      coordinate-ends = refl;
       coordinate-past = refl;
       coordinate-nan = refl;
       coordinate-inf = refl;
-      radius-end = refl;
-      radius-below = refl;
+      radius-ends = refl;
+      radius-past = refl;
       radius-zero = refl;
-      factor-zero = refl;
+      factor-ends = refl;
       factor-past = refl;
+      side-ends = refl;
+      side-past = refl;
+      padding-ends = refl;
+      padding-past = refl;
       root-nan = refl;
       root-below = refl;
       root-minus-inf = refl;

@@ -105,23 +105,26 @@ pub record Chain (n : ℕ) (tol : Float) (rs : List Region) (i j : ℕ) : Type 0
   pub ends : T (holds (lastOf first others) j)
   pub joined : Joined n first others
 
--- ---- demand 3, of an accepted layout: the circles as handed in, the regions, the returned record, the circles as returned
-module _ (t : ℕ) (handed : List Circle) (rs : List Region) (result : Result) (returned : List Circle) where
-  abbrev pub numberOf : ℕ → ℕ
-  numberOf i = getD (result .numbers) i 0
+-- the cluster number of a circle
+abbrev pub numberOf : Result → ℕ → ℕ
+numberOf result i = getD (result .numbers) i 0
 
-  pub record Promises : Type 0 where
-    -- what the clauses below read as whole multiples are numbers
-    pub padding : Fin binary64 (result .padding)
-    pub finite : (i : ℕ) → i < length handed → Finite (circle returned i)
-    -- circles of different clusters are the padding apart
-    pub gap : (i j : ℕ) → i < length handed → j < length handed → numberOf i ≢ numberOf j → Apart t (result .padding) (circle returned i) (circle returned j)
-    -- circles of one cluster, neither of them moved, keep their distance
-    pub distance : (i j : ℕ) → i < length handed → j < length handed → numberOf i ≡ numberOf j → T (not (bit (result .moved) i)) → T (not (bit (result .moved) j))
-        → Alike t (squaredDistance (circle handed i) (circle handed j)) (squaredDistance (circle returned i) (circle returned j))
-    -- a moved circle has a parent, and does not reach past it
-    pub reach : (i : ℕ) → i < length handed → T (bit (result .moved) i)
-        → (p : ℕ) × (parentOf (length handed) rs i ≡ some p)
-        × ReachesWithin t (units (circle returned p .radius)) (units (circle returned i .radius)) (squaredDistance (circle returned p) (circle returned i))
-    -- two circles are in one cluster exactly if a chain joins them
-    pub chain : (i j : ℕ) → i < length handed → j < length handed → (numberOf i ≡ numberOf j) ↔ ((i ≡ j) ⊎ Chain (length handed) (tolerance rs) rs i j)
+-- ---- demand 3, of an accepted layout: the circles as handed in, the regions, the returned record, the circles as returned
+pub record Promises (t : ℕ) (handed : List Circle) (rs : List Region) (result : Result) (returned : List Circle) : Type 0 where
+  -- what the clauses below read as whole multiples are numbers
+  pub padding : Fin binary64 (result .padding)
+  pub finite : (i : ℕ) → i < length handed → Finite (circle returned i)
+  -- circles of different clusters are the padding apart
+  pub gap : (i j : ℕ) → i < length handed → j < length handed → numberOf result i ≢ numberOf result j
+      → Apart t (result .padding) (circle returned i) (circle returned j)
+  -- circles of one cluster, neither of them moved, keep their distance
+  pub distance : (i j : ℕ) → i < length handed → j < length handed → numberOf result i ≡ numberOf result j
+      → T (not (bit (result .moved) i)) → T (not (bit (result .moved) j))
+      → Alike t (squaredDistance (circle handed i) (circle handed j)) (squaredDistance (circle returned i) (circle returned j))
+  -- a moved circle has a parent, and does not reach past it
+  pub reach : (i : ℕ) → i < length handed → T (bit (result .moved) i)
+      → (p : ℕ) × (parentOf (length handed) rs i ≡ some p)
+      × ReachesWithin t (units (circle returned p .radius)) (units (circle returned i .radius)) (squaredDistance (circle returned p) (circle returned i))
+  -- two circles are in one cluster exactly if a chain joins them
+  pub chain : (i j : ℕ) → i < length handed → j < length handed
+      → (numberOf result i ≡ numberOf result j) ↔ ((i ≡ j) ⊎ Chain (length handed) (tolerance rs) rs i j)

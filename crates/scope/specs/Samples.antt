@@ -1,24 +1,27 @@
--- Document 01, "Sample cards": (a) to (k), proved together by computation.
+-- Document 01, "Sample cards": (a) to (k), proved together in proofs/Samples.antt. What (e), (g) and (h) say of every circle and area is stated so too.
 use Prim.Native.Nat.{ℕ}
-use mathlib.Core.Path.{_≡_, refl}
-use mathlib.Core.Bool.{true, false}
+use mathlib.Core.Path.{_≡_}
+use mathlib.Core.Logic.{_⊎_}
+use mathlib.Core.Bool.{Bool, true, false}
 use mathlib.Core.List.{List, [], _∷_, _++_, map}
 use lib.IntN.{negsuc}
-use lib.Ieee.{Float, inf, fin, binary64, toBits}
+use lib.Dec.{T, eqb}
+use lib.Ieee.{Float, inf, fin, binary64, fits, toBits}
 use Rattle.shapes.specs.declared.circle.Circle.{Circle}
 use Rattle.rounding.specs.Root.{root}
 use Rattle.scope.specs.Numbers.{nought, one, whole, e-10}
 use Rattle.scope.specs.Runs.{filled}
 use Rattle.scope.specs.Limits.{circleCap}
-use Rattle.scope.specs.Refusals.{given}
+use Rattle.scope.specs.Refusals.{given, pairRefusal}
 use Rattle.shapes.specs.Records.{pointAt, circleOf}
 use Rattle.scope.specs.Distance.{rootAnswer, containsAnswer, intersectsAnswer}
+use Rattle.scope.specs.Links.{Region, counts, linkedByRegions}
 use Rattle.scope.specs.Groups.{Grouping, areaGrouping}
 use Rattle.scope.specs.Packing.{columnsAnswer}
 use Rattle.scope.specs.Layout.{layout}
 use Rattle.scope.specs.Text.{bytes}
 use Rattle.scope.specs.Print.{cardText}
-use Rattle.scope.specs.Computing.{computing}
+use Rattle.scope.specs.Promises.{Each}
 
 -- the circle (x, y, radius) of whole numbers
 abbrev pub wholeCircle : ℕ → ℕ → ℕ → Circle
@@ -43,6 +46,10 @@ fileJ =
     ∷ 0 ∷ 0 ∷ 0 ∷ 0 ∷ 0 ∷ 0 ∷ 0xf0 ∷ 0x3f
     ∷ []
 
+-- a region whose area is the tolerance, or infinite
+abbrev pub EqualOrInfinite : Float → Region → Type 0
+EqualOrInfinite tol r = (r .area ≡ tol) ⊎ ((s : Bool) × (r .area ≡ inf s))
+
 pub record SampleCards : Type 0 where
   -- root 4 = 2
   pub a : rootAnswer (whole 4) ≡ given (whole 2)
@@ -55,12 +62,20 @@ pub record SampleCards : Type 0 where
   -- equal circles contain each other and do not intersect
   pub e : containsAnswer (wholeCircle 1 2 3) (wholeCircle 1 2 3) ≡ given true
   pub e-apart : intersectsAnswer (wholeCircle 1 2 3) (wholeCircle 1 2 3) ≡ given false
+  -- so any accepted circle, its radius an f64
+  pub e-any : (c : Circle) → T (fits binary64 (c .radius)) → pairRefusal c c ≡ 0 → (containsAnswer c c ≡ given true) × (intersectsAnswer c c ≡ given false)
   -- n 4, masks 3 and 6, area 1, tolerance 1e-10: circles 0, 1, 2 in one cluster, 3 in another
   pub f : areaGrouping 4 (3 ∷ 6 ∷ []) (one ∷ one ∷ []) e-10 ≡ grouped 2 (0 ∷ 0 ∷ 0 ∷ 1 ∷ [])
   -- area equal to the tolerance, no link
   pub g : areaGrouping 2 (3 ∷ []) (e-10 ∷ []) e-10 ≡ grouped 2 (0 ∷ 1 ∷ [])
+  -- so at any tolerance, NaN and the infinities too, and whatever the other regions are
+  pub g-any : (tol : Float) (mask : ℕ) → counts tol (record { mask = mask; area = tol }) ≡ false
   -- infinite area, no link
   pub h : areaGrouping 2 (3 ∷ []) (inf false ∷ []) e-10 ≡ grouped 2 (0 ∷ 1 ∷ [])
+  -- so at any tolerance, and whatever the other regions are
+  pub h-any : (tol : Float) (mask : ℕ) (s : Bool) → counts tol (record { mask = mask; area = inf s }) ≡ false
+  -- with none but such regions as (g)'s and (h)'s, each circle is linked to itself alone
+  pub g-h-alone : (tol : Float) (rs : List Region) → Each (EqualOrInfinite tol) rs → (i j : ℕ) → linkedByRegions tol rs i j ≡ eqb i j
   -- columns for 1, 3, 4, 6, 64 boxes: 2, 3, 3, 4, 11
   pub i : map columnsAnswer (1 ∷ 3 ∷ 4 ∷ 6 ∷ 64 ∷ []) ≡ given 2 ∷ given 3 ∷ given 3 ∷ given 4 ∷ given 11 ∷ []
   -- the file above, from its bytes to the bytes printed
@@ -71,21 +86,3 @@ pub record SampleCards : Type 0 where
   -- (0,0,2), (0,3,2), masks 1, 2, 3 of area 1: centres (-1.5,0), (1.5,0)
   pub k : map (λ c. c .center) (layout (wholeCircle 0 0 2 ∷ wholeCircle 0 3 2 ∷ []) nought (1 ∷ 2 ∷ 3 ∷ []) (one ∷ one ∷ one ∷ []) .circles)
       ≡ pointAt (fin true 3 (negsuc 0)) nought ∷ pointAt (fin false 3 (negsuc 0)) nought ∷ []
-
-pub sample-cards : SampleCards
-unfolding computing fileJ
-sample-cards =
-    record {
-      a = refl;
-      b = refl;
-      c = refl;
-      d = refl;
-      e = refl;
-      e-apart = refl;
-      f = refl;
-      g = refl;
-      h = refl;
-      i = refl;
-      j = refl;
-      k = refl;
-    }

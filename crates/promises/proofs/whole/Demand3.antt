@@ -20,7 +20,7 @@ use Rattle.scope.specs.Padding.{boxes, padding, packClusters}
 use Rattle.scope.specs.Centring.{centredLayout}
 use Rattle.scope.specs.Layout.{Layout, arranged}
 use Rattle.scope.specs.Promises.{Chain, Promises}
-use Rattle.promises.specs.Demand3.{bound, gapBound, Demand3, Apart}
+use Rattle.promises.specs.Demand3.{bound, gapBound, Demand3, GapKept, DistanceKept, ReachKept, ChainKept}
 use Rattle.laws.proofs.Runs.{getD-filled-any}
 use Rattle.laws.proofs.Numbering.{Numbering}
 use Rattle.laws.proofs.Clusters.{clusters-numbering, same-number-iff-chain, same-filled-number-iff-chain}
@@ -139,6 +139,23 @@ layout-promises cs factor masks areas d h =
     (arranged-promises cs (regions masks areas) factor (λ i l. circle-accepted (circle cs i) (d .x i l) (d .y i l) (d .radius i l) (a .centres i l .0) (a .centres i l .1) (a .radii i l)) (d .radius) (a .radii) (d .factor) (a .factor-inside)
     (a .few-circles))
 
-pub layout-apart : Apart
-unfolding Apart
-layout-apart cs factor masks areas d h = unfold Demand3 in layout-promises cs factor masks areas d h .gap
+-- ---- clause by clause
+pub layout-gap : GapKept
+unfolding GapKept Demand3
+layout-gap cs factor masks areas d h = layout-promises cs factor masks areas d h .gap
+
+pub layout-distance : DistanceKept
+unfolding DistanceKept Demand3
+layout-distance cs factor masks areas d h i j hi hj equal mi mj =
+    let a = layout-promises cs factor masks areas d h .distance i j hi hj equal mi mj in
+    (a .shrunk, a .grown)
+
+pub layout-reach : ReachKept
+unfolding ReachKept Demand3
+layout-reach cs factor masks areas d h i hi moved =
+    let r = layout-promises cs factor masks areas d h .reach i hi moved in
+    (r .0, r .1, r .2 .room, r .2 .covers)
+
+pub layout-chain : ChainKept
+unfolding ChainKept Demand3
+layout-chain cs factor masks areas d h = layout-promises cs factor masks areas d h .chain
