@@ -7,8 +7,8 @@
  * A run of records or numbers is a pointer and how many lie there. A pointer is never NULL, not even to an empty run. What a call rewrites may overlap nothing
  * else that it is lent. A struct that comes back has padding bytes, which are not set: compare its fields, not its bytes.
  *
- * What is proved holds in IEEE 754's default state, round to nearest and with subnormals, which a program has from its start unless it is linked with -ffast-math
- * or the like. In another, last bits change, and a side or factor just below 0 passes for 0. rundhefja_floats_ok tells.
+ * What is proved holds in IEEE 754's default state, round to nearest and with subnormals, in which a program starts unless it is linked with -ffast-math or the
+ * like. In another, last bits change, and a side or a factor just below 0 passes for 0. rundhefja_floats_ok tells.
  *
  * refusal: 0 none; 1 more than 64 circles or rectangles; 2 more than 2,048 regions, or an input of more than 65,536 bytes; 3 a coordinate that is not finite
  * or above 2^20 in size; 4 a radius that is not finite or outside 2^-20 to 2^20; 5 masks that do not rise strictly; 6 a factor that is not finite or outside
@@ -190,8 +190,8 @@ rundhefja_circle rundhefja_circle_from_params(double x, double y, double radius)
 
 /* ---- the caller's floating-point state */
 
-/* Is it as the proofs want it: round to nearest, subnormals kept where they are read and where they are written? Each thread has its own state, so each asks once.
- * Right also in a file that is compiled with -ffast-math. */
+/* Is it as the proofs want it: round to nearest, subnormals kept where they are read and where they are written? Each thread has its own state, so each asks
+ * once. Right also in a file that is compiled with -ffast-math. */
 static inline bool rundhefja_floats_ok(void) {
     /* volatile: else the compiler works all this out by itself, in the default state. */
     volatile double one = 1.0, little = 1e-20, half = 0.5, many = 4503599627370496.0 /* 2^52 */;
