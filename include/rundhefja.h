@@ -7,6 +7,9 @@
  * A run of records or numbers is a pointer and how many lie there. A pointer is never NULL, not even to an empty run. What a call rewrites may overlap nothing
  * else that it is lent. A struct that comes back has padding bytes, which are not set: compare its fields, not its bytes.
  *
+ * What is proved holds in IEEE 754's default state, round to nearest and with subnormals, in which a program starts unless it is linked with -ffast-math or the
+ * like. In another, last bits change, and a side or a factor just below 0 passes for 0. rundhefja_floats_ok tells.
+ *
  * refusal: 0 none; 1 more than 64 circles or rectangles; 2 more than 2,048 regions, or an input of more than 65,536 bytes; 3 a coordinate that is not finite
  * or above 2^20 in size; 4 a radius that is not finite or outside 2^-20 to 2^20; 5 masks that do not rise strictly; 6 a factor that is not finite or outside
  * 0 to 1; 7 a side that is not finite or outside 0 to 2^23; 8 a padding that is not finite or outside 0 to 2^26; 9 a tag unknown or out of place; 10 a
@@ -184,6 +187,18 @@ rundhefja_bounds rundhefja_rectangle_bounds(rundhefja_rectangle r);
 
 /* The circle of three numbers. A radius below the smallest normal double, 2^-1022, is raised to it; a NaN stays. */
 rundhefja_circle rundhefja_circle_from_params(double x, double y, double radius);
+
+/* ---- the caller's floating-point state */
+
+/* Is it as the proofs want it: round to nearest, subnormals kept where they are read and where they are written? Each thread has its own state, so each asks
+ * once. Right also in a file that is compiled with -ffast-math. */
+static inline bool rundhefja_floats_ok(void) {
+    /* volatile: else the compiler works all this out by itself, in the default state. */
+    volatile double one = 1.0, little = 1e-20, half = 0.5, many = 4503599627370496.0 /* 2^52 */;
+    volatile double least = 4.9406564584124654e-324, normal = 2.2250738585072014e-308; /* the smallest double, 2^-1074, and the smallest normal one, 2^-1022 */
+    volatile double above = one + little, below = one - little, read = least * many, written = normal * half;
+    return above == one && below == one && read == normal && written != 0.0;
+}
 
 #ifdef __cplusplus
 }

@@ -1,4 +1,5 @@
 // Lays out a card of four inks and prints where each circle goes.
+// The library's proofs want round to nearest and subnormals, as every Rust program starts with, unless it is linked with -ffast-math: rundhefja.h has a check.
 #[repr(C)]
 #[derive(Clone, Copy)]
 struct Point {
