@@ -55,9 +55,3 @@ within-mul {a} {b} {A} {B} h k = go (size a) (size b) (size-cases a) (size-cases
 
 pub within-difference : {a b : Z} {e : ℕ} → Near a b e → Within (a ⊖ b) e
 within-difference {a} {b} {e} h = omega arith
-
-pub near-mul : {a b a' b' : Z} {e e' M M' : ℕ} → Near a a' e → Near b b' e' → Within b M → Within a' M' → Near (a ⊗ b) (a' ⊗ b') (e * M + M' * e')
-near-mul {a} {b} {a'} {b'} {e} {e'} {M} {M'} h k m m' = omega (arith, within-mul (within-difference h) m, within-mul m' (within-difference k))
-
-pub near-trans : {a b c : Z} {e e' : ℕ} (k : ℕ) → Near a b e → Near b c e' → e + e' ≤ k → Near a c k
-near-trans {a} {b} {c} {e} {e'} k h g l = omega arith

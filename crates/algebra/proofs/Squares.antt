@@ -22,10 +22,6 @@ twice-product-le x y = elim (either x y) [ inl l ↦ go x y (omega arith) | inr 
     go : (x y : ℕ) → x ≤ y → 2 * (x * y) ≤ x * x + y * y
     go x y l = let k : y ≡ x + (y - x) = omega arith in rw k (omega arith)
 
--- (x + y)² ≤ 2 (x² + y²)
-pub square-of-sum-le : (x y : ℕ) → (x + y) * (x + y) ≤ 2 * (x * x + y * y)
-square-of-sum-le x y = omega (arith, twice-product-le x y)
-
 -- ---- whole numbers
 pub square-positive : (a : Z) → nat 0 ≼ a ⊗ a
 square-positive a = omega (arith, size-square a)

@@ -4,7 +4,21 @@ ghost use Prim.Native.Nat.{_+_, _≤_};
 ghost use mathlib.Core.List.{[], _∷_};
 ghost use lib.ListN.{length, drop};
 ghost use Rattle.scope.specs.Refusals.{frontToBack};
-ghost use Rattle.scope.specs.CardFile.{tag, statedLength, bodyLength, body, headCut, bodyCut, unknown, wrongLength, circleFrom, fieldRefusal, readField, fieldBody, headLength};
+ghost use Rattle.scope.specs.CardFile.{
+  tag,
+  statedLength,
+  bodyLength,
+  body,
+  headCut,
+  bodyCut,
+  unknown,
+  wrongLength,
+  circleFrom,
+  fieldRefusal,
+  readField,
+  fieldBody,
+  headLength,
+};
 ghost use Rattle.card_file.specs.Answers.{fieldAnswer};
 ghost use Rattle.card_file.specs.Parts.{StartsAt, bodyPlace};
 use crate::words::byte_at;

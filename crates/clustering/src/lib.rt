@@ -88,8 +88,8 @@ pub fn find_clusters(circles: &[Circle]) -> Clusters
     clusters_at(&xs, &ys, &radii, n)
 }
 
-// What is no more than this does not count in a layout: 1e-10 of the largest area, or of 1. Rounding leaves some 1e-12 of the largest where there is no overlap,
-// and an overlap that is meant is larger than 1e-10.
+// What is no more than this does not count in a layout: 1e-10 of the largest area, or of 1. Rounding leaves some 1e-12 of the largest where there is no
+// overlap, and an overlap that is meant is larger than 1e-10.
 pub fn tolerance(areas: &[f64]) -> f64
     ensures { λ r. ⌜ ((masks : List ℕ) → length masks ≡ length (now (areas .entry)) → r ≡ tolerance (regions masks (now (areas .entry)))) ⌝ }
 {

@@ -103,9 +103,6 @@ module _ (n : ℕ) (f : ℕ → ℕ → Bool) where
   unfolding closure after
   closure-iff-walk i j = (after-walks n f n i j, walks-after)
 
-  pub closure-inside : (i j : ℕ) → T (at (closed n f) i j) → (i < n) × (j < n)
-  closure-inside i j h = let w = closure-iff-walk i j .0 h in (walk-start w, walk-end w)
-
   pub closure-links : (i j : ℕ) → i < n → j < n → T (f i j) → T (at (closed n f) i j)
   closure-links i j hi hj h = closure-iff-walk i j .1 (last hi hj h)
 

@@ -45,20 +45,6 @@ module _ (n : ℕ) (rs : List Region) (tol : Float) (i j : ℕ) (hi : i < n) (hj
       → (getD (filled c 0 (clusters n rs tol .numbers)) i 0 ≡ getD (filled c 0 (clusters n rs tol .numbers)) j 0) ↔ ((i ≡ j) ⊎ Chain n tol rs i j)
   same-filled-number-iff-chain c = rw (getD-filled-any c 0 (clusters n rs tol .numbers) i, getD-filled-any c 0 (clusters n rs tol .numbers) j) same-number-iff-chain
 
--- ---- of an accepted layout
-
-module _ (cs : List Circle) (factor : Float) (masks : List ℕ) (areas : List Float) (accepted : layoutRefusal cs factor masks areas ≡ 0) where
-  pub layout-numbers : layout cs factor masks areas .result .numbers ≡ filled circleCap 0 (clusters (length cs) (regions masks areas) (tolerance (regions masks areas)) .numbers)
-  unfolding arranged
-  layout-numbers = ap (λ (l : Layout). l .result .numbers) (layout-answers cs factor masks areas .on-acceptance accepted)
-
-  -- the field `chain` of `Promises`
-  pub layout-chain : (i j : ℕ) → i < length cs → j < length cs
-      → (getD (layout cs factor masks areas .result .numbers) i 0 ≡ getD (layout cs factor masks areas .result .numbers) j 0)
-      ↔ ((i ≡ j) ⊎ Chain (length cs) (tolerance (regions masks areas)) (regions masks areas) i j)
-  layout-chain i j hi hj =
-      rw layout-numbers (same-filled-number-iff-chain (length cs) (regions masks areas) (tolerance (regions masks areas)) i j hi hj circleCap)
-
 -- ---- by overlaps
 
 abbrev pub meet : List Circle → ℕ → ℕ → Bool
@@ -68,6 +54,7 @@ pub circles-equivalence : (cs : List Circle) → Equivalence (length cs) (closed
 unfolding linkedByCircles
 circles-equivalence cs = orSame-equivalence (length cs) (meet cs) (λ i j hi hj h. rw (overlap-swapped (circle cs j) (circle cs i)) h)
 
+-- what the numbers of the plain clustering mean: by smallest member, and equal exactly where a walk of overlaps joins two circles
 pub plain-numbering : (cs : List Circle) → Numbering (length cs) (plainClusters cs)
 unfolding plainClusters
 plain-numbering cs = clustersOf-numbering (length cs) (closed (length cs) (linkedByCircles cs)) (circles-equivalence cs)

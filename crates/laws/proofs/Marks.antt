@@ -38,10 +38,6 @@ marked-iff n f i j = (inside, λ h. rw (at-marked n f i j (h .0) (h .1)) (h .2))
           | no a ↦ absurd (rw (at-marked-outside n f i j (inl (omega arith))) at h)
         ]
 
-pub marked-equal : (n : ℕ) (f g : ℕ → ℕ → Bool) → ((i j : ℕ) → i < n → j < n → f i j ≡ g i j) → marked n f ≡ marked n g
-unfolding marked
-marked-equal n f g e = tab-equal n (λ i. tab n (f i)) (λ i. tab n (g i)) (λ i hi. tab-equal n (f i) (g i) (λ j hj. e i j hi hj))
-
 -- a pass marks what was marked, and what two marks join at k
 pub pass-iff : (n k : ℕ) (t : Marks) (i j : ℕ)
     → T (at (pass n k t) i j) ↔ ((i < n) × (j < n) × (T (at t i j) ⊎ (T (at t i k) × T (at t k j))))

@@ -59,6 +59,7 @@ module _ (n : ℕ) (g h : Clusters) (p : Numbering n g) (q : Numbering n h) (ali
       let earlier : (b : ℕ) → b < i → numberIn g b ≡ numberIn h b = λ b hb. equal-below m b (omega arith) (omega arith) in
       omega (arith, not-smaller n g h p q alike i hi earlier, not-smaller n h g q p (alike-turned n g h alike) i hi (λ b hb. sym (earlier b hb)))
 
+  -- (for request 10 of document 02: the wanted numbers are those of a clustering)
   pub alike-equal : g ≡ h
   alike-equal =
       let equal : (i : ℕ) → i < n → numberIn g i ≡ numberIn h i = λ i. equal-below (suc i) i (omega arith) in

@@ -88,7 +88,7 @@ module _ (n : ℕ) (tol : Float) (rs : List Region) (r : Region) where
   one-more-region i j =
       (closure-least n new (λ i j. Old i j ⊎ Bridged n Old tol r i j) linked (λ i j k hi hj hk. joined i j k) i j, ⊎-elim (kept i j) (bridged i j))
 
-  -- the new numbers are equal where the old ones were, or where r bridges two old ones
+  -- the new numbers are equal where the old ones were, or where r bridges two old ones (for request 11 of document 02, as is the next)
   pub one-more-region-numbers : (i j : ℕ) → i < n → j < n → Same n tol (rs ++ (r ∷ [])) i j ↔ (Same n tol rs i j ⊎ Bridged n (Same n tol rs) tol r i j)
   one-more-region-numbers i j hi hj =
       let bridge = bridged-map (λ a ha. marks i a hi ha .1) (λ b hb. marks b j hb hj .1) in

@@ -37,10 +37,6 @@ module _ {ℓ} {A : Type ℓ} where
 -- ---- gather and inTurn: index n is taken last
 
 module _ {ℓ κ} {A : Type ℓ} {B : Type κ} (op : A → B → A) (z : A) where
-  pub gather-step : (p : ℕ → Bool) (n : ℕ) (f : ℕ → B) → gather op z p (suc n) f ≡ cond (p n) (op (gather op z p n f) (f n)) (gather op z p n f)
-  unfolding gather
-  gather-step p n f = refl
-
   pub gather-takes : (p : ℕ → Bool) (n : ℕ) (f : ℕ → B) → T (p n) → gather op z p (suc n) f ≡ op (gather op z p n f) (f n)
   unfolding gather
   gather-takes p n f h = rw (is-true (p n) h)
@@ -63,10 +59,6 @@ module _ {ℓ κ} {A : Type ℓ} {B : Type κ} (op : A → B → A) (z : A) wher
   gather-keeps P p (suc n) f s k =
       let before : P (gather op z p n f) = gather-keeps P p n f s (λ i a h. k i a (omega arith)) in
       elim (tested (p n)) [ yes h ↦ rw (is-true (p n) h) (k n (gather op z p n f) (omega arith) h before) | no h ↦ rw (is-false (p n) h) before ]
-
-pub inTurn-step {ℓ} : {A : Type ℓ} (n : ℕ) (step : ℕ → A → A) (z : A) → inTurn (suc n) step z ≡ step n (inTurn n step z)
-unfolding inTurn
-inTurn-step n step z = refl
 
 -- ---- many
 
@@ -163,11 +155,6 @@ least-none n p =
       λ e. rw e at (none-before-least n p),
       λ f. elim (decLt (least n p) n) [ yes l ↦ absurd (f (least n p) l (least-passes n p l)) | no g ↦ omega arith ],
     )
-
-pub least-equal : (n : ℕ) (p q : ℕ → Bool) → ((i : ℕ) → i < n → p i ≡ q i) → least n p ≡ least n q
-unfolding least
-least-equal zero p q e = refl
-least-equal (suc n) p q e = rw (e 0 (omega arith), least-equal n (λ i. p (suc i)) (λ i. q (suc i)) (λ i h. e (suc i) (omega arith)))
 
 -- ---- some index, some element
 

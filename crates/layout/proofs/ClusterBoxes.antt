@@ -101,9 +101,6 @@ module _ (count : ℕ) (numbers : List ℕ) (xs ys rs : List Float) (even : leng
   unfolding boxes asRectangle
   boxes-by-ranges = tab-equal count _ boxBy (λ a h. rw (circles-box (inCluster numbers a) xs ys rs even))
 
-  pub length-boxes : length rects ≡ count
-  length-boxes = rw boxes-by-ranges (length-tab count boxBy)
-
   -- a list made of the boxes
   of-boxes : (part : Rectangle → Float) → tab count (λ a. part (boxBy a)) ≡ tab (length rects) (λ a. part (rectangle rects a))
   of-boxes part = rw (boxes-by-ranges, length-tab count boxBy) (tab-equal count _ _ (λ a h. rw (getD-tab count boxBy a noRectangle h)))

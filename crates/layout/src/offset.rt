@@ -370,7 +370,13 @@ fn blocked(xs: &[f64], ys: &[f64], radii: &[f64], p: usize, i: usize, c: Circle)
 }
 
 // The child half-way between the parent's centre and its edge, unless it is there, would not lie inside, or would meet another circle.
-fn reposition_contained_child(xs: &[f64], ys: &[f64], radii: &[f64], p: usize, i: usize) -> Repositioned
+fn reposition_contained_child(
+    xs: &[f64],
+    ys: &[f64],
+    radii: &[f64],
+    p: usize,
+    i: usize,
+) -> Repositioned
     requires { ⌜ (length (now ys) ≡ length (now xs)) × (length (now radii) ≡ length (now xs)) × (p < length (now xs)) × (i < length (now xs)) ⌝ }
     ensures { λ r. ⌜ moved r ≡ repositioned (circlesOf (now (xs .entry)) (now (ys .entry)) (now (radii .entry))) p i ⌝ }
 {

@@ -121,40 +121,6 @@ add-relative f x y p q t =
     same-size false a v h = elim (algebra.size-cases v) [ inl k ↦ omega arith | inr k ↦ omega arith ]
     same-size true a v h = elim (algebra.size-cases v) [ inl k ↦ omega arith | inr k ↦ omega arith ]
 
--- ---- exact sums: two values on one grid of 2 ^ j units, and a sum of at most 2 ^ (prec + j)
-parts-grid : (A B a b q j : ℕ) → A ≡ a * 2 ^ j → B ≡ b * 2 ^ j → (q ≡ A + B) ⊎ ((q + B ≡ A) ⊎ (q + A ≡ B)) → (r : ℕ) × (q ≡ r * 2 ^ j)
-parts-grid A B a b q j h k (inl e) = (a + b, omega arith)
-parts-grid A B a b q j h k (inr (inl e)) =
-    let x : b ≤ a = le-of-mul-le-mul-right {k = 2 ^ j} (omega arith) (pow-pos j) in
-    (a - b, omega (arith, ap (λ (z : ℕ). z * 2 ^ j) (sub-add-cancel x)))
-parts-grid A B a b q j h k (inr (inr e)) =
-    let x : a ≤ b = le-of-mul-le-mul-right {k = 2 ^ j} (omega arith) (pow-pos j) in
-    (b - a, omega (arith, ap (λ (z : ℕ). z * 2 ^ j) (sub-add-cancel x)))
-
--- a whole number of 2 ^ j units
-pub record OnGrid (f : Format) (j : ℕ) (x : Float) : Type 0 where
-  pub count : ℕ
-  pub is : mag f x ≡ count * 2 ^ j
-
-pub record ExactSum (f : Format) (j : ℕ) (z : Float) (v : Z) : Type 0 where
-  pub fin : Fin f z
-  pub value : val f z ≈ v
-  pub grid : OnGrid f j z
-
-pub add-exact : (f : Format) (j : ℕ) (x y : Float) → Fin f x → Fin f y → OnGrid f j x → OnGrid f j y → prec f + j ≤ low f + emax f → Within (val f x ⊕ val f y) (2 ^ (prec f + j))
-    → ExactSum f j (add f x y) (val f x ⊕ val f y)
-add-exact f j x y p q a b o h =
-    let r = add-is f x y p q in
-    let g = parts-grid (mag f x) (mag f y) (a .count) (b .count) (r .size) j (a .is) (b .is) (r .parts) in
-    let w = signed-size (r .sign) (r .size) (2 ^ (prec f + j)) (val f x ⊕ val f y) (r .value) h in
-    let Q : g .0 ≤ 2 ^ prec f = le-of-mul-le-mul-right {k = 2 ^ j} (omega (arith, g .1, pow-add 2 (prec f) j)) (pow-pos j) in
-    let e = round-exact (sum-round f x y p q) (g .0) j (g .1 ∙ sym (mul-one (g .0 * 2 ^ j))) Q (no-overflow f j (g .0 * 2 ^ j) o (subst (λ (t : ℕ). t ≤ 2 ^ (prec f + j)) (g .1) w)) in
-    record {
-      fin = e .fin;
-      value = rw (e .value) (subst (λ (t : ℕ). signed (r .sign) t ≈ (val f x ⊕ val f y)) (g .1) (r .value));
-      grid = record { count = g .0; is = e .grid };
-    }
-
 -- ---- the difference is the sum with the opposite
 module _ (f : Format) (x y : Float) (p : Fin f x) (q : Fin f y) where
   pub sub-near : (k : ℕ) → prec f + k ≤ low f + emax f → Within (val f x ⊖ val f y) (2 ^ (prec f + k)) → Rounded f (sub f x y) (val f x ⊖ val f y) 1 k
@@ -165,12 +131,6 @@ module _ (f : Format) (x y : Float) (p : Fin f x) (q : Fin f y) where
 
   pub sub-relative : T (finite (sub f x y)) → Relative f (sub f x y) (algebra.size (val f x ⊖ val f y)) 1
   sub-relative t = unfold sub in subst (λ (z : Z). Relative f (add f x (neg y)) (algebra.size (val f x ⊕ z)) 1) (neg-val f y) (add-relative f x (neg y) p (neg-fin f y q) t)
-
-  pub sub-exact : (j : ℕ) → OnGrid f j x → OnGrid f j y → prec f + j ≤ low f + emax f → Within (val f x ⊖ val f y) (2 ^ (prec f + j)) → ExactSum f j (sub f x y) (val f x ⊖ val f y)
-  sub-exact j a b o h =
-      unfold sub in
-      subst (λ (z : Z). ExactSum f j (add f x (neg y)) (val f x ⊕ z)) (neg-val f y)
-      (add-exact f j x (neg y) p (neg-fin f y q) a (record { count = b .count; is = neg-mag f y ∙ b .is }) o (subst (λ (z : Z). Within (val f x ⊕ z) (2 ^ (prec f + j))) (sym (neg-val f y)) h))
 
 -- ---- a sum of two values that are not negative is not negative
 pub add-sign : (f : Format) (x y : Float) → Fin f x → Fin f y → negative x ≡ false → negative y ≡ false → negative (add f x y) ≡ false

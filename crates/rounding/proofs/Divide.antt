@@ -51,23 +51,3 @@ module _ (f : Format) (x y : Float) (p : Fin f x) (q : Fin f y) (b : 0 < mag f y
   pub div-near : (k : ℕ) → prec f + k ≤ low f + emax f → mag f x * 2 ^ low f ≤ 2 ^ (prec f + k) * mag f y
       → Rounded f (div f x y) (signed (unlike (negative x) (negative y)) (mag f x * 2 ^ low f)) (mag f y) k
   div-near k o h = round-near (div-is f x y p q b) k h o
-
-  -- the same law multiplied out by the divisor: z * y is near x
-  pub div-crossed : (k : ℕ) → prec f + k ≤ low f + emax f → mag f x * 2 ^ low f ≤ 2 ^ (prec f + k) * mag f y
-      → Near ((val f (div f x y) ⊕ val f (div f x y)) ⊗ val f y) ((val f x ⊕ val f x) ⊗ nat (2 ^ low f)) (2 ^ k * mag f y)
-  div-crossed k o h = unfold val in turn (negative x) (negative y) (val f (div f x y)) (mag f x) (mag f y) (2 ^ low f) (2 ^ k) (div-near k o h .near)
-    where
-      turn : (s t : Bool) (z : Z) (A B L e : ℕ) → Near ((z ⊕ z) ⊗ nat B) (signed (unlike s t) (A * L) ⊕ signed (unlike s t) (A * L)) (e * B) → Near ((z ⊕ z) ⊗ signed t B) ((signed s A ⊕ signed s A) ⊗ nat L) (e * B)
-      turn false false z A B L e h = omega arith
-      turn false true z A B L e h = omega arith
-      turn true false z A B L e h = omega arith
-      turn true true z A B L e h = omega arith
-
-  pub div-relative : T (finite (div f x y)) → Relative f (div f x y) (mag f x * 2 ^ low f) (mag f y)
-  div-relative t = round-relative (div-is f x y p q b) t
-
-  pub div-exact : (c j : ℕ) → mag f x * 2 ^ low f ≡ c * 2 ^ j * mag f y → c ≤ 2 ^ prec f → c * 2 ^ j < 2 ^ (low f + suc (emax f)) → Exact f (div f x y) (unlike (negative x) (negative y)) c j
-  div-exact c j h Q o = round-exact (div-is f x y p q b) c j h Q o
-
-  pub div-sign : negative (div f x y) ≡ unlike (negative x) (negative y)
-  div-sign = round-sign (div-is f x y p q b)

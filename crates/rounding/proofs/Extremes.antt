@@ -29,10 +29,6 @@ not-lt : (f : Format) (x y : Float) → Fin f x → Fin f y → T (not (lt x y))
 not-lt f x y p q t = elim (either (val f x .p + val f y .n) (val f y .p + val f x .n)) [ inl h ↦ absurd (T-not (lt x y) t (lt-is f x y p q .1 h)) | inr h ↦ h ]
 
 -- ---- the laws
-pub minimum-one-of : (x y : Float) → (minimum x y ≡ x) ⊎ (minimum x y ≡ y)
-unfolding minimum
-minimum-one-of x y = one-of (lt y x) x y
-
 pub maximum-one-of : (x y : Float) → (maximum x y ≡ x) ⊎ (maximum x y ≡ y)
 unfolding maximum
 maximum-one-of x y = one-of (lt x y) x y

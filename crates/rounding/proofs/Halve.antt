@@ -67,20 +67,7 @@ module _ {f : Format} {z : Float} {s : Bool} {b d : ℕ} (r : RoundOf f z s b d)
       go zero e = odd-half (subst (λ (t : ℕ). t < 2 ^ prec f) (sym (e ∙ mul-one (w .digits))) (w .small))
       go (suc j) e = even-half (w .digits) j (w .small) (e ∙ ap (λ (t : ℕ). w .digits * t) (pow-succ' 2 j) ∙ mul-left-comm (w .digits) 2 (2 ^ j))
 
--- an even size is halved exactly
-pub halved-even : {f : Format} {z : Float} {s : Bool} {a : ℕ} → Halved f z s a → (g : ℕ) → a ≡ 2 * g → mag f z ≡ g
-halved-even {f} {z} {s} {a} h g e = go s (mag f z) (subst (λ (t : Bool). Near (signed t (mag f z) ⊕ signed t (mag f z)) (signed s a) 1) (h .sign) (unfold val in h .near))
-  where
-    go : (s : Bool) (m : ℕ) → Near (signed s m ⊕ signed s m) (signed s a) 1 → m ≡ g
-    go false m n = omega arith
-    go true m n = omega arith
-
 -- ---- as it is written: a factor of one half, or a divisor of two
-pub half-times : (f : Format) (y x : Float) → Fin f y → Fin f x → negative y ≡ false → 2 * mag f y ≡ 2 ^ low f → Halved f (mul f y x) (negative x) (mag f x)
-half-times f y x q p s h =
-    subst (λ (t : Bool). Halved f (mul f y x) t (mag f x)) (ap (λ (t : Bool). unlike t (negative x)) s ∙ keep-left (negative x))
-    (halved (mul-is f y x q p) (mag f x) (omega (arith, ap (λ (t : ℕ). t * mag f x) h)) (mag-below f x p) (held f x p))
-
 pub over-two : (f : Format) (x y : Float) → Fin f x → Fin f y → negative y ≡ false → mag f y ≡ 2 * 2 ^ low f → Halved f (div f x y) (negative x) (mag f x)
 over-two f x y p q s h =
     subst (λ (t : Bool). Halved f (div f x y) t (mag f x)) (ap (λ (t : Bool). unlike (negative x) t) s ∙ keep-right (negative x))

@@ -55,10 +55,6 @@ module _ (f : Format) (x y : Float) (p : Fin f x) (q : Fin f y) where
   pub mul-relative : T (finite (mul f x y)) → Relative f (mul f x y) (mag f x * mag f y) (2 ^ low f)
   mul-relative t = round-relative (mul-is f x y p q) t
 
-  -- a product that is q * 2 ^ j units, q at most 2 ^ prec, is exact
-  pub mul-exact : (c j : ℕ) → mag f x * mag f y ≡ c * 2 ^ j * 2 ^ low f → c ≤ 2 ^ prec f → c * 2 ^ j < 2 ^ (low f + suc (emax f)) → Exact f (mul f x y) (unlike (negative x) (negative y)) c j
-  mul-exact c j h Q o = round-exact (mul-is f x y p q) c j h Q o
-
   pub mul-sign : negative (mul f x y) ≡ unlike (negative x) (negative y)
   mul-sign = round-sign (mul-is f x y p q)
 

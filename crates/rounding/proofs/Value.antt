@@ -40,10 +40,6 @@ pub fin-finite : (f : Format) (x : Float) → Fin f x → T (finite x)
 unfolding Fin
 fin-finite f x p = and-l (finite x) (fits f x) p
 
-pub fin-fits : (f : Format) (x : Float) → Fin f x → T (fits f x)
-unfolding Fin
-fin-fits f x p = and-r (finite x) (fits f x) p
-
 pub fin-both : (f : Format) (x : Float) → T (finite x) → T (fits f x) → Fin f x
 unfolding Fin
 fin-both f x p q = and-i (finite x) (fits f x) p q

@@ -34,18 +34,11 @@ bounded h = record { fin = h .fin; within = h .within }
 pub wider : {a b : ℕ} {x : Float} → a ≤ b → Bounded a x → Bounded b x
 wider {a} {b} {x} l h = record { fin = h .fin; within = let w = h .within in omega arith }
 
-pub upto-wider : {a b : ℕ} {x : Float} → a ≤ b → Upto a x → Upto b x
-upto-wider {a} {b} {x} l h = record { fin = h .fin; sign = h .sign; within = let w = h .within in omega arith }
-
 pub nought-upto : (b : ℕ) → Upto b nought
 unfolding Fin fits negative val mag
 nought-upto b = record { fin = tt; sign = refl; within = omega arith }
 
 -- ---- sizes
-signed-size : (s : Bool) (a b : ℕ) → Within (signed s a) b → a ≤ b
-signed-size true a b h = omega arith
-signed-size false a b h = omega arith
-
 pub within-mag : (x : Float) (b : ℕ) → negative x ≡ false → mag binary64 x ≤ b → Within (units x) b
 within-mag x b s h = rw (val-mag binary64 x s) (omega arith)
 

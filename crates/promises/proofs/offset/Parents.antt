@@ -122,9 +122,6 @@ module _ (n : ℕ) (rs : List Region) (i p : ℕ) (e : parentOf n rs i ≡ some 
   unfolding otherBits
   shared-region = partner-to (tolerance rs) rs i (length rs) p (rw (← parent-is n rs i p e .partner) (bit-of-power p))
 
-  pub not-own-parent : i ≡ p → ⊥
-  not-own-parent = shared-region .apart
-
   -- its parent would be i again
   pub parent-is-no-child : (q : ℕ) → parentOf n rs p ≡ some q → ⊥
   unfolding otherBits

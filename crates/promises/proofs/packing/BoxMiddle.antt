@@ -42,6 +42,7 @@ least-of f (suc n) = next (least-of f n)
       | inr h ↦ (r .0, omega (arith, r .1), here-or-before (r .0) h (r .2))
     ]
 
+-- the ends of a list with a circle (for request 7 of document 02)
 pub exact-ends : (axis : Point → Float) (cs : List Circle) (n : ℕ) → length cs ≡ suc n → (lo : Z) × (hi : Z) × ExactEnds axis cs lo hi
 exact-ends axis cs n e =
     let a = least-of (λ j. lower axis (circle cs j)) n in

@@ -52,6 +52,7 @@ pub record Arranged (i o t : ℕ) (numbers : List ℕ) (pad : Float) (cs out : L
   pub middle-x : (lo hi : Z) → ExactEnds xAxis out lo hi → Within (lo ⊕ hi) (2 * pow2 i + 4 * pow2 o)
   pub middle-y : (lo hi : Z) → ExactEnds yAxis out lo hi → Within (lo ⊕ hi) (2 * pow2 i + 4 * pow2 o)
 
+-- each number of a returned circle (for request 7 of document 02)
 module _ {i o t : ℕ} {numbers : List ℕ} {pad : Float} {cs out : List Circle} (A : Arranged i o t numbers pad cs out) (j : ℕ) (l : j < length cs) where
   pub returned-x : circle out j .center .x ≡ add binary64 (add binary64 (circle cs j .center .x) (A .clusterX (getD numbers j 0))) (A .layoutX)
   returned-x = A .second j l .x .is ∙ ap (λ (x : Float). add binary64 x (A .layoutX)) (A .first j l .x .is)

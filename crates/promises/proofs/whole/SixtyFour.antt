@@ -48,7 +48,7 @@ budget64 = record {
   slack = lit≤ tt;
 }
 
--- so `middle-x` and `middle-y` put the middle of the box within 2^-20 of the origin
+-- so `middle-x` and `middle-y` put the middle of the box within 2^-20 of the origin (for request 7 of document 02)
 pub middle-fits-64 : 2 * pow2 37 + 4 * pow2 38 ≤ 2 * pow2 40
 unfolding pow2
 middle-fits-64 = lit≤ tt
@@ -107,7 +107,7 @@ module _ {g : Clusters} {cs : List Circle} (G : Gauged64 g cs) where
         → Arranged 37 38 gapBound (g .numbers) pad cs (returned proportion (g .count) (g .numbers) cs pad)
     arranged-64 proportion grid = packed-and-centred budget64 clustered few-clusters factor (factor-bounded factor fit ok) proportion grid
 
-    -- any from 1/4 to 4
+    -- any from 1/4 to 4 (for request 3 of document 02)
     pub proportion-arranged-64 : (proportion : Float) → Proportion proportion → Arranged 37 38 gapBound (g .numbers) pad cs (returned proportion (g .count) (g .numbers) cs pad)
     proportion-arranged-64 proportion P = arranged-64 proportion (λ many. grid-fits-64 (g .count) (omega arith) few-clusters proportion P)
 

@@ -127,5 +127,6 @@ module _ (f : Format) (n k : ℕ) where
         ]
       ])
 
+  -- so the definition could be left out: the theorem says which value it is
   pub nearest-root-by-theorem : T (finite (nearestRoot f n k)) → (z : Float) → IsNearestRoot f n k z → nearestRoot f n k ≡ z
   nearest-root-by-theorem t z h = nearest-root-only (nearestRoot f n k) z (nearest-root f n k t) h

@@ -118,7 +118,7 @@ module _ (f : Format) (x : Float) (h : Fin f x) (s : negative x ≡ false) where
       more : (g e Q : ℕ) → 2 * g + 1 + Q ≤ 2 * (Q * e) → (2 * g + 1) * (Q + 1) ≤ 2 * (g + e) * Q
       more g e Q l = omega arith
 
--- ---- and z is the root where it lies strictly between the half-way points around it, as for `units-root-unique`: the root of a float is never exactly half-way
+-- ---- and z is the root where it lies strictly between the half-way points around it, as for `units-root-unique`: the root of a float is never exactly half-way (for request 13 of document 02)
 pub root-unique : (f : Format) (m : ℕ) (e : ℤ) (z : Float) (q j : ℕ) → Fin f z → negative z ≡ false → mag f z ≡ q * 2 ^ suc j → prec f + suc j ≤ low f + emax f
     → 2 ^ (prec f - 1 + suc j) * 2 ^ (prec f - 1 + suc j) ≤ rootSquare f (fin false (suc m) e)
     → rootSquare f (fin false (suc m) e) < 2 ^ (prec f + suc j) * 2 ^ (prec f + suc j)
