@@ -1,13 +1,13 @@
 -- A number or a circle held against itself: a finite number less itself is 0, so an accepted circle stands at distance 0 from itself, contains itself and does
 -- not intersect itself; and no region whose area is the tolerance, or is infinite, counts.
-use Prim.Native.Nat.{ℕ, _+_, _*_, _<_}
-use native.Mathlib.Nat.{lt-irrefl, sub-self, mul-pos, zero-mul}
+use Prim.Native.Nat.{ℕ, zero, suc, _+_, _*_, _<_}
+use native.Mathlib.Nat.{sub-self, mul-pos, zero-mul}
 use native.Mathlib.Omega.{arith}
-use mathlib.Core.Path.{_≡_, refl, sym, ap}
+use mathlib.Core.Path.{_≡_, refl, sym, ap, _∙_}
 use mathlib.Core.Logic.{inl, inr}
 use mathlib.Core.Bool.{Bool, true, false, not, _&&_, _||_, and-false, or-true, or-false}
 use mathlib.Core.List.{List, [], _∷_}
-use lib.Dec.{T, eqb, ltb, ltb→lt, eqb-refl, lit<}
+use lib.Dec.{T, eqb, ltb, eqb-refl, lit<, leb·suc-zero, leb·suc-suc}
 use lib.Ieee.{Float, nan, inf, fin, Format, binary64, up, down, round, sum, add, sub, lt, le, fits}
 use lib.Ieee.Bits.{is-true}
 use lib.Ieee.Fits.{down-pos, and-l, and-r}
@@ -32,11 +32,8 @@ use Rattle.scope.specs.Samples.{EqualOrInfinite}
 
 -- ---- a number and itself
 never-below-itself : (a : ℕ) → ltb a a ≡ false
-never-below-itself a = go (ltb a a) (ltb→lt a a)
-  where
-    go : (b : Bool) → (T b → a < a) → b ≡ false
-    go true h = absurd (lt-irrefl a (h tt))
-    go false h = refl
+never-below-itself zero = leb·suc-zero 0
+never-below-itself (suc a) = leb·suc-suc (suc a) a ∙ never-below-itself a
 
 nothing-rounded : (c : ℕ) → 0 < c → round binary64 false 0 c ≡ nought
 unfolding computing
