@@ -14,16 +14,7 @@ slice-aggregate-agrees : tie.Need-slice-aggregate-agrees
 slice-aggregate-agrees c = simp length-take (omega arith)
 
 -- src/main.rt:111:9
-agrees-requires : tie.Need-agrees-requires
-agrees-requires c κs = search needs
-
 -- src/main.rt:109:1
-returns : tie.Need-returns
-returns c = search needs
-
 -- src/main.rt:109:1
-returns-2 : tie.Need-returns-2
-returns-2 c = search needs
-
 pub agrees-on-spec : {M : Type 1} → statement M
-agrees-on-spec = tie.close (tie.spec slice-aggregate-agrees agrees-requires returns returns-2)
+agrees-on-spec = tie.close (tie.spec slice-aggregate-agrees (λ c κs. search needs) (λ c. search needs) (λ c. search needs))

@@ -13,29 +13,8 @@ Inv-loop text whole agreed₀ i₀ agreed i = (whole ≡ length text / 34) × (i
 abbrev μ-loop : tie.MeasureT-loop
 μ-loop text whole agreed₀ i₀ agreed i = whole - i
 
-loop-holds : tie.Need-loop-holds Inv-loop μ-loop
-loop-holds c = omega arith
-
-mul-agrees : tie.Need-mul-agrees Inv-loop μ-loop
-mul-agrees c = omega arith
-
-agrees-requires : tie.Need-agrees-requires Inv-loop μ-loop
-agrees-requires c κs = omega arith
-
-add-agreed : tie.Need-add-agreed Inv-loop μ-loop
-add-agreed c = omega arith
-
-add-i : tie.Need-add-i Inv-loop μ-loop
-add-i c = omega arith
-
-loop-less : tie.Need-loop-less Inv-loop μ-loop
-loop-less c = omega arith
-
 loop-again : tie.Need-loop-again Inv-loop μ-loop
 loop-again c = ⊎-elim (λ w. omega arith) (λ w. omega arith) (c .if1 .came)
-
-returns : tie.Need-returns Inv-loop μ-loop
-returns c = omega arith
 
 pub agreeing-spec : {M : Type 1} → statement M
 agreeing-spec =
@@ -43,11 +22,11 @@ agreeing-spec =
     (tie.spec
     Inv-loop
     μ-loop
-    loop-holds
-    mul-agrees
-    agrees-requires
-    add-agreed
-    add-i
-    loop-less
+    (λ c. omega arith)
+    (λ c. omega arith)
+    (λ c κs. omega arith)
+    (λ c. omega arith)
+    (λ c. omega arith)
+    (λ c. omega arith)
     loop-again
-    returns)
+    (λ c. omega arith))

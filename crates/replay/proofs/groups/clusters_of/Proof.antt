@@ -25,18 +25,12 @@ find-clusters-from-exclusive-regions-requires :
 find-clusters-from-exclusive-regions-requires c κs = search needs
 
 -- src/groups.rt:57:13
-returns : tie.Need-returns
-returns c = search needs
-
 -- src/groups.rt:60:5
 find-clusters-from-exclusive-regions-requires-2 :
     tie.Need-find-clusters-from-exclusive-regions-requires-2
 find-clusters-from-exclusive-regions-requires-2 c κs = search needs
 
 -- src/groups.rt:54:1
-returns-2 : tie.Need-returns-2
-returns-2 c = search needs
-
 pub clusters-of-spec : {M : Type 1} → statement M
 clusters-of-spec =
     tie.close
@@ -44,6 +38,6 @@ clusters-of-spec =
     slice-aggregate-find-clusters-from-exclusive-regions
     slice-aggregate-find-clusters-from-exclusive-regions-2
     find-clusters-from-exclusive-regions-requires
-    returns
+    (λ c. search needs)
     find-clusters-from-exclusive-regions-requires-2
-    returns-2)
+    (λ c. search needs))

@@ -16,7 +16,7 @@ maximum-requires-2 : tie.Need-maximum-requires-2
 maximum-requires-2 c κs = search needs
 
 returns : tie.Need-returns
-returns c = cc
+returns c = let low = c .before in rw (c .maximum2 .ensures, low .minimum2 .ensures, low .before .maximum .ensures, low .before .before .minimum .ensures)
 
 pub union-spec : {M : Type 1} → statement M
 union-spec =

@@ -10,7 +10,7 @@ lift-requires : tie.Need-lift-requires
 lift-requires c κs = search needs
 
 returns : tie.Need-returns
-returns c = cc
+returns c = rw (c .lift .ensures, c .before .new .ensures)
 
 pub moved-to-spec : {M : Type 1} → statement M
 moved-to-spec = tie.close (tie.spec new-requires lift-requires returns)
