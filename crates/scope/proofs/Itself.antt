@@ -103,15 +103,16 @@ contains-itself-and-does-not-intersect c f h =
     let d = distance-to-itself (c .center) (coordinate-finite (c .center .x) (a .0)) (coordinate-finite (c .center .y) (a .1)) in
     let above = radius-positive r (a .2) in
     let known = positive-finite r above in
-    (rw (h, d, is-true (nought +ᶠ r ≤ᶠ r) (nothing-added binary64 r (fin-both binary64 r known f) above)), rw (h, d, less-itself r known, and-false))
+    let inside : T (contains c c) = rw d (nothing-added binary64 r (fin-both binary64 r known f) above) in
+    (rw (h, is-true (contains c c) inside), rw (h, d, less-itself r known, and-false))
 
 -- ---- a region that does not count
 pub equal-area-is-not-counted : (tol : Float) (mask : ℕ) → counts tol (record { mask = mask; area = tol }) ≡ false
 unfolding counts le
 equal-area-is-not-counted nan mask = refl
 equal-area-is-not-counted (inf s) mask = refl
-equal-area-is-not-counted (fin false m e) mask = let a = m * up e * down e in rw (is-true (eqb a a) (eqb-refl a), or-true)
-equal-area-is-not-counted (fin true m e) mask = let a = m * up e * down e in rw (is-true (eqb a a) (eqb-refl a), or-true)
+equal-area-is-not-counted (fin false m e) mask = let a = m * up e * down e in rw (is-true (eqb a a) (eqb-refl a), or-true) refl
+equal-area-is-not-counted (fin true m e) mask = let a = m * up e * down e in rw (is-true (eqb a a) (eqb-refl a), or-true) refl
 
 pub infinite-area-is-not-counted : (tol : Float) (mask : ℕ) (s : Bool) → counts tol (record { mask = mask; area = inf s }) ≡ false
 unfolding counts
