@@ -13,7 +13,7 @@ use Rattle.scope.specs.Runs.{any}
 use Rattle.scope.specs.Limits.{circleCap}
 use Rattle.scope.specs.Refusals.{causes, causeHolds, first, refusal, tooMany, badCentre, badRadius, circlesRefusal}
 use Rattle.scope.specs.Groups.{Clusters, plainClusters, Grouping, grouping, plainGrouping}
-use Rattle.laws.proofs.AfterRefusal.{refusedGrouping}
+use Rattle.scope.specs.Groups.{refusedGrouping}
 use Rattle.intake.specs.Columns.{xsOf, ysOf, radiiOf, overwritten}
 use Rattle.intake.specs.CauseWords.{front, circleChecks}
 use Rattle.intake.proofs.Checking.{few}

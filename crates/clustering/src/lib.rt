@@ -14,7 +14,7 @@ ghost use Rattle.scope.specs.Tolerance.{tolerance};
 ghost use Rattle.scope.specs.Closure.{Marks, at, closure};
 ghost use Rattle.scope.specs.Groups.{clusters, plainClusters, clustersOf, grouping, areaGrouping, plainGrouping};
 ghost use Rattle.laws.proofs.Closure.{Equivalence};
-ghost use Rattle.laws.proofs.AfterRefusal.{refusedGrouping};
+ghost use Rattle.scope.specs.Groups.{refusedGrouping};
 ghost use Rattle.intake.specs.Limits.{maxCircles};
 ghost use Rattle.intake.specs.Columns.{circlesOf};
 ghost use Rattle.intake.specs.CauseWords.{front};

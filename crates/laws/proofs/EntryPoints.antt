@@ -15,7 +15,8 @@ use Rattle.scope.specs.Runs.{any}
 use Rattle.scope.specs.Limits.{circleCap}
 use Rattle.scope.specs.Refusals.{causes, causeHolds, refusal, tooMany, unequal, tooManyRegions, badPoint, badCentre, badRadius, rising, badFactor, badSide, badPadding, pointsRefusal, pairRefusal, circlePointRefusal, circlesRefusal, regionsRefusal, columnsRefusal, packRefusal, containerRefusal, layoutRefusal}
 use Rattle.scope.specs.CardFile.{Card, tag, headCut, bodyCut, unknown, wrongLength, misplaced, fieldRefusal, firstRefusal, nextRefusal}
-use Rattle.laws.proofs.FrontToBack.{Reads, front-to-back-reads, refusal-reads, only-for-its-cause}
+use Rattle.laws.specs.BothWays.{Reads}
+use Rattle.laws.proofs.FrontToBack.{front-to-back-reads, refusal-reads, only-for-its-cause}
 
 pub root-reads : (x : Float) → Reads (refusal ((12, isNan x || (x <ᶠ nought)) ∷ [])) ((12, isNan x || (x <ᶠ nought)) ∷ [])
 unfolding causes

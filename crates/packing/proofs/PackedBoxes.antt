@@ -21,7 +21,7 @@ use Rattle.scope.specs.Packing.{Packing, noRectangle, rectangle, widthAt, heigh
 use Rattle.laws.proofs.Cases.{is-false}
 use Rattle.laws.proofs.Accepted.{not-too-many-iff}
 use Rattle.laws.proofs.Runs.{length-tab, getD-tab}
-use Rattle.laws.proofs.AfterRefusal.{refusedPacking}
+use Rattle.scope.specs.Packing.{refusedPacking}
 use Rattle.intake.specs.Limits.{maxCircles}
 use Rattle.intake.specs.Columns.{at, overwritten, widthsOf, heightsOf}
 use Rattle.intake.proofs.Checking.{few}

@@ -10,7 +10,7 @@ ghost use Rattle.scope.specs.Numbers.{_<ᶠ_, _*ᶠ_, nought, golden};
 ghost use Rattle.scope.specs.Runs.{tab, filled};
 ghost use Rattle.scope.specs.Limits.{circleCap};
 ghost use Rattle.scope.specs.Packing.{noRectangle, widthAt, heightAt, columns, columnsAnswer, place, breadth, start, centred, placed, skylinePack};
-ghost use Rattle.laws.proofs.AfterRefusal.{refusedPacking};
+ghost use Rattle.scope.specs.Packing.{refusedPacking};
 ghost use Rattle.intake.specs.Limits.{maxCircles};
 ghost use Rattle.intake.specs.Columns.{at, overwritten};
 ghost use Rattle.packing.specs.Answers.{counted, packedBoxes};
