@@ -12,20 +12,20 @@ use Rattle.shapes.specs.declared.circle.Circle.{Circle}
 use Rattle.scope.specs.Runs.{any}
 use Rattle.scope.specs.Limits.{circleCap}
 use Rattle.scope.specs.Refusals.{causes, causeHolds, first, refusal, tooMany, badCentre, badRadius, circlesRefusal}
-use Rattle.scope.specs.Groups.{Clusters, plainClusters, Grouping, grouping, plainGrouping}
-use Rattle.scope.specs.Groups.{refusedGrouping}
+use Rattle.scope.specs.Groups.{Clusters, plainClusters, Grouping, refusedGrouping, grouping, plainGrouping}
+use Rattle.scope.specs.Twins.{countedGrouping}
 use Rattle.intake.specs.Columns.{xsOf, ysOf, radiiOf, overwritten}
 use Rattle.intake.specs.CauseWords.{front, circleChecks}
 use Rattle.intake.proofs.Checking.{few}
 use Rattle.intake.proofs.Columns.{length-shown}
 use Rattle.intake.proofs.Splitting.{front-shown}
-use Rattle.clustering.specs.Answers.{countedGrouping}
 
 -- the number that comes back
 abbrev pub countedRefusal : ℕ → List Circle → ℕ
 countedRefusal n cs = cond (tooMany n) 1 (circlesRefusal cs)
 
-by-count : (b : Bool) (k : ℕ) (g : Clusters) → cond b (grouping 1 g) (grouping k g) ≡ grouping (cond b 1 k) g
+by-count : (b : Bool) (k : ℕ) (g : Clusters) → cond b (refusedGrouping 1) (grouping k g) ≡ grouping (cond b 1 k) g
+unfolding grouping
 by-count true k g = refl
 by-count false k g = refl
 
@@ -54,7 +54,7 @@ module _ (n : ℕ) (cs : List Circle) where
 
 -- no circle is looked at where there are too many
 pub counted-same : (n : ℕ) (cs ds : List Circle) → (tooMany n ≡ false → cs ≡ ds) → countedGrouping n cs ≡ countedGrouping n ds
-unfolding countedGrouping grouping
+unfolding countedGrouping
 counted-same n cs ds e = by-test (tooMany n) refl
   where
     by-test : (b : Bool) → tooMany n ≡ b → countedGrouping n cs ≡ countedGrouping n ds
@@ -87,7 +87,7 @@ pub split-grouping : (n : ℕ) (cs : List Circle) (xs ys rs : List Float) → (t
 split-grouping n cs xs ys rs long = counted-same n _ cs (λ h. rw h (front-shown n cs xs ys rs (long h)))
 
 pub whole-grouping : (cs : List Circle) → countedGrouping (length cs) cs ≡ plainGrouping cs
-unfolding countedGrouping plainGrouping circlesRefusal
+unfolding countedGrouping plainGrouping circlesRefusal grouping
 whole-grouping cs = by-test (tooMany (length cs)) refl
   where
     by-test : (b : Bool) → tooMany (length cs) ≡ b → countedGrouping (length cs) cs ≡ plainGrouping cs

@@ -17,17 +17,17 @@ use Rattle.scope.specs.Numbers.{golden}
 use Rattle.scope.specs.Runs.{tab, filled, any}
 use Rattle.scope.specs.Limits.{circleCap, sideOk}
 use Rattle.scope.specs.Refusals.{causes, causeHolds, first, refusal, tooMany, badSide, packRefusal}
-use Rattle.scope.specs.Packing.{Packing, noRectangle, rectangle, widthAt, heightAt, packed, packing, skylinePack}
+use Rattle.scope.specs.Packing.{Packing, noRectangle, rectangle, widthAt, heightAt, packed, refusedPacking, packing, skylinePack}
+use Rattle.scope.specs.Twins.{firstPacking}
 use Rattle.laws.proofs.Cases.{is-false}
 use Rattle.laws.proofs.Accepted.{not-too-many-iff}
 use Rattle.laws.proofs.Runs.{length-tab, getD-tab}
-use Rattle.scope.specs.Packing.{refusedPacking}
 use Rattle.intake.specs.Limits.{maxCircles}
 use Rattle.intake.specs.Columns.{at, overwritten, widthsOf, heightsOf}
 use Rattle.intake.proofs.Checking.{few}
 use Rattle.intake.proofs.Columns.{any-either, not-both, length-widths, length-heights, width-at, height-at}
 use Rattle.intake.proofs.Splitting.{splitOf}
-use Rattle.packing.specs.Sides.{sided, sidesNumber, sidedPacking, firstPacking, centreXs, centreYs, boxAt, Sides}
+use Rattle.packing.specs.Sides.{sided, sidesNumber, sidedPacking, centreXs, centreYs, boxAt, Sides}
 use Rattle.packing.specs.Lists.{At}
 use Rattle.packing.proofs.Packings.{sided-sides, length-packed, packed-by-sides, boxed-at}
 
@@ -37,7 +37,7 @@ unfolding overwritten
 front-at l m i h = List·getD-append l (drop (length l) m) nan i h
 
 -- ---- refused or accepted
-by-count : (b : Bool) (k : ℕ) (l : List Rectangle) → cond b (packing 1 []) (packing k l) ≡ packing (cond b 1 k) l
+by-count : (b : Bool) (k : ℕ) (l : List Rectangle) → cond b (refusedPacking 1) (packing k l) ≡ packing (cond b 1 k) l
 unfolding packing
 by-count true k l = refl
 by-count false k l = refl
@@ -141,7 +141,7 @@ pub first-by-sides : (n : ℕ) (ws hs : List Float) (rects : List Rectangle) (pa
 unfolding sidedPacking firstPacking circleCap
 first-by-sides n ws hs rects pad long w h = by-test (tooMany n) refl
   where
-    by-test : (b : Bool) → tooMany n ≡ b → cond b (packing 1 []) (skylinePack (sided n ws hs) pad) ≡ cond b (packing 1 []) (skylinePack (take n rects) pad)
+    by-test : (b : Bool) → tooMany n ≡ b → cond b (refusedPacking 1) (skylinePack (sided n ws hs) pad) ≡ cond b (refusedPacking 1) (skylinePack (take n rects) pad)
     by-test true e = refl
     by-test false e =
         let l : n ≤ maxCircles = few n e in
@@ -153,7 +153,7 @@ first-by-sides n ws hs rects pad long w h = by-test (tooMany n) refl
         }) pad)
 
 -- ---- a run whose sides were written over two lists, unless there are too many boxes
-many-refused : (rects : List Rectangle) (pad : Float) → tooMany (length rects) ≡ true → packing 1 [] ≡ skylinePack rects pad
+many-refused : (rects : List Rectangle) (pad : Float) → tooMany (length rects) ≡ true → refusedPacking 1 ≡ skylinePack rects pad
 unfolding skylinePack packRefusal refusal first causeHolds causes packing
 many-refused rects pad h = rw h
 
@@ -169,6 +169,6 @@ unfolding sidedPacking
 split-by-sides rects ws hs pad = by-test (tooMany (length rects)) refl
   where
     by-test : (b : Bool) → tooMany (length rects) ≡ b
-        → cond b (packing 1 []) (skylinePack (sided (length rects) (cond b ws (overwritten (widthsOf rects) ws)) (cond b hs (overwritten (heightsOf rects) hs))) pad) ≡ skylinePack rects pad
+        → cond b (refusedPacking 1) (skylinePack (sided (length rects) (cond b ws (overwritten (widthsOf rects) ws)) (cond b hs (overwritten (heightsOf rects) hs))) pad) ≡ skylinePack rects pad
     by-test true h = many-refused rects pad h
     by-test false h = sym (packing-by-sides _ _ _ rects (written-sides rects ws hs) pad)
