@@ -3,18 +3,17 @@ use Prim.Native.Nat.{ℕ, zero, suc}
 use native.Mathlib.Omega.{arith}
 use mathlib.Core.Path.{_≡_, refl}
 use mathlib.Core.Logic.{_≢_}
-use mathlib.Core.Bool.{_||_}
-use mathlib.Core.List.{List, [], _∷_}
+use mathlib.Core.List.{List, []}
 use lib.ListN.{getD}
-use lib.Ieee.{Float, binary64, isNan}
+use lib.Ieee.{Float, binary64}
 use Rattle.rounding.specs.Root.{root}
 use Rattle.shapes.specs.declared.point.Point.{Point}
 use Rattle.shapes.specs.declared.circle.Circle.{Circle}
 use Rattle.shapes.specs.declared.rectangle.Rectangle.{Rectangle}
-use Rattle.scope.specs.Numbers.{_<ᶠ_, nought, golden}
+use Rattle.scope.specs.Numbers.{golden}
 use Rattle.scope.specs.Runs.{filled}
-use Rattle.scope.specs.Refusals.{refused, given, answer, refusal, pointsRefusal, pairRefusal, circlePointRefusal, circlesRefusal, regionsRefusal, columnsRefusal, packRefusal, containerRefusal, layoutRefusal}
-use Rattle.scope.specs.Distance.{rootAnswer, distance, distanceAnswer, circleDistance, circleDistanceAnswer, contains, containsAnswer, containsPoint, containsPointAnswer, intersects, intersectsAnswer}
+use Rattle.scope.specs.Refusals.{refused, given, answer, pointsRefusal, pairRefusal, circlePointRefusal, circlesRefusal, regionsRefusal, columnsRefusal, packRefusal, containerRefusal, layoutRefusal}
+use Rattle.scope.specs.Distance.{rootRefusal, rootAnswer, distance, distanceAnswer, circleDistance, circleDistanceAnswer, contains, containsAnswer, containsPoint, containsPointAnswer, intersects, intersectsAnswer}
 use Rattle.scope.specs.Links.{regions}
 use Rattle.scope.specs.Groups.{Clusters, Grouping, clusters, plainClusters, refusedGrouping, acceptedGrouping, grouping, areaGrouping, plainGrouping}
 use Rattle.scope.specs.Packing.{Packing, columns, columnsAnswer, packed, refusedPacking, acceptedPacking, packing, skylinePack}
@@ -39,7 +38,7 @@ answer-answers : {A : Type 0} (number : ℕ) (a : A) → Answers refusalOf numbe
 unfolding answer
 answer-answers number a = by-number refusalOf refused (λ k. answer k a) refl (λ k. refl) (λ k. refl) number
 
-pub root-answers : (x : Float) → Answers refusalOf (refusal ((12, isNan x || (x <ᶠ nought)) ∷ [])) (rootAnswer x) refused (given (root binary64 x))
+pub root-answers : (x : Float) → Answers refusalOf (rootRefusal x) (rootAnswer x) refused (given (root binary64 x))
 unfolding rootAnswer
 root-answers x = answer-answers _ _
 
