@@ -34,7 +34,7 @@ filled-from-nothing c z i = getD-filled-any c z [] i
 
 -- ---- answers that are a value or a refusal
 
-answer-answers : {A : Type 0} (number : ℕ) (a : A) → Answers refusalOf number (answer number a) refused (given a)
+pub answer-answers : {A : Type 0} (number : ℕ) (a : A) → Answers refusalOf number (answer number a) refused (given a)
 unfolding answer
 answer-answers number a = by-number refusalOf refused (λ k. answer k a) refl (λ k. refl) (λ k. refl) number
 

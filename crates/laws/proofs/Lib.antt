@@ -14,5 +14,8 @@ pub mod OneMoreRegion
 pub mod Refusals
 pub mod FrontToBack
 pub mod EntryPoints
+pub mod CardFiles
+pub mod Decimal
+pub mod CardTexts
 pub mod Accepted
 pub mod MaskBits
