@@ -4,8 +4,9 @@ use native.Mathlib.Omega.{arith}
 use mathlib.Core.Path.{_≡_, refl}
 use mathlib.Core.Logic.{_≢_}
 use mathlib.Core.List.{List, []}
-use lib.ListN.{getD}
+use lib.ListN.{getD, drop}
 use lib.Ieee.{Float, binary64}
+use borrow.Author.Tests.{eq-eqb, ne-eqb}
 use Rattle.rounding.specs.Root.{root}
 use Rattle.shapes.specs.declared.point.Point.{Point}
 use Rattle.shapes.specs.declared.circle.Circle.{Circle}
@@ -19,6 +20,7 @@ use Rattle.scope.specs.Groups.{Clusters, Grouping, clusters, plainClusters, ref
 use Rattle.scope.specs.Packing.{Packing, columns, columnsAnswer, packed, refusedPacking, acceptedPacking, packing, skylinePack}
 use Rattle.scope.specs.Container.{Contained, settled, refusedContainer, containedAnswer, contained}
 use Rattle.scope.specs.Layout.{Layout, arranged, refusedLayout, ifAccepted, layout}
+use Rattle.scope.specs.CardFile.{tag, body, fieldOf, fieldRefusal, readField, fieldBody}
 use Rattle.laws.specs.Answers.{Answers, refusalOf}
 use Rattle.laws.proofs.Runs.{getD-filled-any}
 
@@ -65,6 +67,17 @@ intersects-answers a b = answer-answers _ _
 pub columns-answers : (k : ℕ) → Answers refusalOf (columnsRefusal k) (columnsAnswer k) refused (given (columns k golden))
 unfolding columnsAnswer
 columns-answers k = answer-answers _ _
+
+pub read-field-answers : (file : List ℕ) (at : ℕ)
+    → Answers refusalOf (fieldRefusal (drop at file)) (readField file at) refused (given (fieldOf (tag (drop at file)) (body (drop at file))))
+unfolding readField
+read-field-answers file at = answer-answers _ _
+
+-- the body alone, which comes without a number
+pub field-body-answers : (file : List ℕ) (at : ℕ)
+    → (fieldRefusal (drop at file) ≢ 0 → fieldBody file at ≡ []) × (fieldRefusal (drop at file) ≡ 0 → fieldBody file at ≡ body (drop at file))
+unfolding fieldBody
+field-body-answers file at = (λ h. rw (ne-eqb (fieldRefusal (drop at file)) 0 h), λ h. rw (eq-eqb (fieldRefusal (drop at file)) 0 h))
 
 -- ---- clustering: no clusters, all numbers 0
 
