@@ -1,5 +1,5 @@
 -- What the checks of a field say of the bytes at its place, and what the answer of a refused call is.
-use Prim.Native.Nat.{ℕ, zero, suc, _+_, _*_, _≤_}
+use Prim.Native.Nat.{ℕ, _+_, _*_, _≤_}
 use native.Mathlib.Omega.{arith}
 use mathlib.Core.Path.{_≡_, refl}
 use mathlib.Core.Bool.{false}
@@ -10,6 +10,7 @@ use Rattle.scope.specs.Refusals.{refused, given, answer}
 use Rattle.scope.specs.CardFile.{littleEndian, tag, bodyLength, headLength, bodyCut, statedLength, fieldRefusal}
 use Rattle.laws.proofs.Cases.{is-false}
 use Rattle.laws.proofs.EntryPoints.{field-reads}
+use Rattle.laws.proofs.AfterRefusal.{answer-answers}
 
 pub stated-is : (l : List ℕ) → statedLength l ≡ getD l 1 0 + 256 * getD l 2 0
 unfolding statedLength littleEndian
@@ -27,10 +28,7 @@ pub accepted-is-whole : (rest : List ℕ) → fieldRefusal rest ≡ 0 → bodyCu
 accepted-is-whole rest e = is-false (bodyCut rest) (field-reads rest .accepted .0 e .1 .1 .1 .0)
 
 pub refused-answer : {A : Type 0} (k : ℕ) (a : A) → (k ≡ 0 → ⊥) → answer k a ≡ refused k
-unfolding answer
-refused-answer zero a h = absurd (h refl)
-refused-answer (suc k) a h = refl
+refused-answer k a h = answer-answers k a .at-refusal h
 
 pub given-answer : {A : Type 0} (k : ℕ) (a : A) → k ≡ 0 → answer k a ≡ given a
-unfolding answer
-given-answer k a h = rw h
+given-answer k a h = answer-answers k a .on-acceptance h

@@ -1,10 +1,10 @@
 -- Field after field: a field that is not refused adds a circle or a region, and reading goes on behind it.
-use Prim.Native.Nat.{ℕ, zero, suc, _+_, _<_, _≤_}
+use Prim.Native.Nat.{ℕ, suc, _+_, _<_, _≤_}
 use native.Mathlib.Omega.{arith}
-use mathlib.Core.Path.{_≡_, refl, ap, _∙_}
+use mathlib.Core.Path.{_≡_, refl, _∙_}
 use mathlib.Core.Logic.{⊎-elim}
 use mathlib.Core.Bool.{false, _&&_, _||_}
-use mathlib.Core.List.{List, [], _∷_}
+use mathlib.Core.List.{List}
 use lib.Dec.{eqb}
 use lib.ListN.{length, drop, set, replicate, length-drop, drop-of-length-le}
 use lib.Seq.{drop-drop}
@@ -13,53 +13,21 @@ use borrow.Author.Tests.{eq-eqb, ne-eqb}
 use Rattle.shapes.specs.declared.circle.Circle.{Circle}
 use Rattle.scope.specs.Numbers.{nought}
 use Rattle.scope.specs.Limits.{circleCap, regionCap}
-use Rattle.scope.specs.Refusals.{Answer, refused, given, tooMany, tooManyRegions}
-use Rattle.scope.specs.CardFile.{Card, tag, body, bodyLength, headLength, bodyCut, misplaced, word, floatOf, circleFrom, withField, firstRefusal, nextRefusal, orRefused, fields, readFile}
+use Rattle.scope.specs.Refusals.{given, tooMany, tooManyRegions}
+use Rattle.scope.specs.CardFile.{Card, tag, body, bodyLength, headLength, bodyCut, misplaced, word, floatOf, circleFrom, started, withField, firstRefusal, nextRefusal, orRefused, fields}
 use Rattle.laws.proofs.Cases.{is-false, and-iff, or-iff, not-not-iff, eqb-iff, not-ltb-iff}
 use Rattle.laws.proofs.EntryPoints.{first-field-reads, next-field-reads}
+use Rattle.laws.proofs.CardFiles.{next-field, no-field, goes-on}
 use Rattle.intake.specs.Blanks.{blank}
 use Rattle.intake.specs.Limits.{maxCircles, maxRegions}
-use Rattle.card_file.specs.Answers.{listed, started}
+use Rattle.card_file.specs.Answers.{listed}
 use Rattle.card_file.specs.Unused.{Uses}
 use Rattle.card_file.proofs.Filling.{none-used, one-more-used, used-next, used-length}
-
-behind : (k : ℕ) (card : Card) (l : List ℕ) → fields k card l ≡ fields 0 card (drop k l)
-unfolding fields
-behind zero card l = refl
-behind (suc k) card [] = refl
-behind (suc k) card (b ∷ bs) = behind k card bs
-
-pub next-field : (card : Card) (rest : List ℕ) → 0 < length rest
-    → fields 0 card rest ≡ orRefused (nextRefusal card rest) (fields 0 (withField card rest) (drop (headLength + bodyLength (tag rest)) rest))
-unfolding fields
-next-field card [] h = absurd (omega arith)
-next-field card (b ∷ bs) h = let long : headLength + bodyLength b ≡ suc (2 + bodyLength b) = omega arith in rw long (ap (orRefused (nextRefusal card (b ∷ bs))) (behind (2 + bodyLength b) (withField card (b ∷ bs)) bs))
-
-pub no-field : (card : Card) → fields 0 card [] ≡ given card
-unfolding fields
-no-field card = refl
-
-pub stops : {A : Type 0} (k : ℕ) (a : Answer A) → (k ≡ 0 → ⊥) → orRefused k a ≡ refused k
-unfolding orRefused
-stops zero a h = absurd (h refl)
-stops (suc k) a h = refl
-
-pub goes-on : {A : Type 0} (k : ℕ) (a : Answer A) → k ≡ 0 → orRefused k a ≡ a
-unfolding orRefused
-goes-on k a h = rw h
 
 -- ---- the first field
 
 pub first-is-whole : (file : List ℕ) → firstRefusal file ≡ 0 → bodyCut file ≡ false
 first-is-whole file e = is-false (bodyCut file) (first-field-reads file .accepted .0 e .1 .1 .1 .1 .0)
-
-pub after-factor : (file : List ℕ) → firstRefusal file ≡ 0 → readFile file ≡ fields 0 (started (floatOf (word (body file) 0))) (drop 11 file)
-unfolding readFile bodyLength
-after-factor file e = goes-on (firstRefusal file) _ e ∙ behind 11 _ file
-
-pub nothing-after : (file : List ℕ) → (firstRefusal file ≡ 0 → ⊥) → readFile file ≡ refused (firstRefusal file)
-unfolding readFile
-nothing-after file h = stops (firstRefusal file) _ h
 
 -- ---- what a field that is not refused is
 

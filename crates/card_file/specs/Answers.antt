@@ -1,6 +1,6 @@
 -- The answers of the calls as document 01's: a refusal's number, or what is given.
 use Prim.Native.Nat.{ℕ}
-use mathlib.Core.List.{List, []}
+use mathlib.Core.List.{List}
 use lib.ListN.{take, replicate}
 use lib.Ieee.{Float}
 use Rattle.shapes.specs.declared.circle.Circle as shapes
@@ -31,10 +31,6 @@ listed factor n circles m masks patterns areas =
 
 abbrev pub cardAnswer : Card → Answer ReadCard
 cardAnswer r = answer (r .refusal) (listed (r .factor) (r .n) (r .circles) (r .m) (r .masks) (r .patterns) (r .areas))
-
--- a card with the factor alone
-abbrev pub started : Float → ReadCard
-started factor = record { factor = factor; circles = []; masks = []; patterns = []; areas = [] }
 
 -- all but the number is 0
 abbrev pub refusedCard : ℕ → Card

@@ -12,14 +12,13 @@ use Rattle.shapes.specs.declared.circle.Circle.{Circle}
 use Rattle.scope.specs.Runs.{any}
 use Rattle.scope.specs.Limits.{circleCap}
 use Rattle.scope.specs.Refusals.{causes, causeHolds, first, refusal, tooMany, badCentre, badRadius, circlesRefusal}
-use Rattle.scope.specs.Groups.{Clusters, plainClusters, Grouping, grouping, plainGrouping}
-use Rattle.laws.proofs.AfterRefusal.{refusedGrouping}
+use Rattle.scope.specs.Groups.{Clusters, plainClusters, Grouping, refusedGrouping, grouping, plainGrouping}
+use Rattle.scope.specs.Twins.{countedGrouping}
 use Rattle.intake.specs.Columns.{xsOf, ysOf, radiiOf, overwritten}
 use Rattle.intake.specs.CauseWords.{front, circleChecks}
 use Rattle.intake.specs.Limits.{maxCircles}
 use Rattle.intake.proofs.Counted.{by-many, chosen, none-counted, at-once, counted-number}
 use Rattle.intake.proofs.Splitting.{front-shown, few-in-front}
-use Rattle.clustering.specs.Answers.{countedGrouping}
 
 -- the number that comes back
 abbrev pub countedRefusal : ℕ → List Circle → ℕ
@@ -32,7 +31,7 @@ refused-by (suc k) g h = refl
 
 module _ (n : ℕ) (cs : List Circle) where
   answered : countedGrouping n cs ≡ grouping (countedRefusal n cs) (plainClusters cs)
-  unfolding countedGrouping plainGrouping
+  unfolding countedGrouping plainGrouping grouping
   answered = sym (chosen (λ (k : ℕ). grouping k (plainClusters cs)) (tooMany n) 1 (circlesRefusal cs))
 
   pub counted-refused : countedRefusal n cs ≢ 0 → countedGrouping n cs ≡ refusedGrouping (countedRefusal n cs)
@@ -63,5 +62,5 @@ pub split-grouping : (n : ℕ) (cs : List Circle) (xs ys rs : List Float) → (t
 split-grouping n cs xs ys rs long = counted-same n _ cs (λ h. rw h (front-shown n cs xs ys rs (long h)))
 
 pub whole-grouping : (cs : List Circle) → countedGrouping (length cs) cs ≡ plainGrouping cs
-unfolding countedGrouping plainGrouping circlesRefusal
+unfolding countedGrouping plainGrouping circlesRefusal grouping
 whole-grouping cs = by-many (length cs) (λ h. rw (h, at-once ((3, any badCentre cs) ∷ (4, any badRadius cs) ∷ []))) (λ h. rw h)

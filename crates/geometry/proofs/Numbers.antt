@@ -1,4 +1,4 @@
--- Numbers of the code and of scope: the size of a number by its sign, and where there is no root.
+-- The size of a number, in the code and in scope: by its sign.
 use Prim.Native.Nat.{ℕ, zero, suc, _+_, _*_}
 use native.Mathlib.Omega.{arith}
 use native.Mathlib.Nat.{mul-pos}
@@ -9,13 +9,7 @@ use lib.Pow.{pow-lt}
 use lib.Ieee.{Float, nan, inf, fin, binary64, ofBits, neg, lt, eq, up, down, fits}
 use lib.Ieee.Fits.{up-pos}
 use borrow.Author.Tests.{ltb-true, ltb-false, eqb-true, eq-eqb}
-use Rattle.rounding.specs.Root.{root}
-use Rattle.root.specs.Answer.{answer, refused}
-use Rattle.root.specs.declared.answers.Root.the-variants.{Of, Refused}
-use Rattle.root.proofs.Callers.{answer-refused, answer-given}
 use Rattle.scope.specs.Numbers.{abs}
-
--- ---- the size of a number
 
 -- a zero is written in one way
 zero-exponent : (e : ℤ) → up e * down e ≡ 1 → e ≡ pos 0
@@ -52,28 +46,3 @@ size-above-zero (fin false m e) l h = refl
 size-above-zero (fin true m e) l h =
     let none = ltb-false 0 (m * up e * 1 + 0 * down e) l in
     absurd (false≢true (sym h ∙ rw (eq-eqb (m * up e * 1) (0 * down e) (omega arith), eq-eqb (m * up e * 1) 0 (omega arith))))
-
--- ---- the root of what has none
-
-pub no-root : (x : Float) → refused x ≡ true → root binary64 x ≡ nan
-unfolding refused root
-no-root nan h = refl
-no-root (inf true) h = refl
-no-root (inf false) h = absurd (false≢true h)
-no-root (fin s zero e) h = absurd (false≢true h)
-no-root (fin true (suc m) e) h = refl
-no-root (fin false (suc m) e) h = absurd (false≢true h)
-
-pub root-given : (x r : Float) → Of r ≡ answer x → r ≡ root binary64 x
-root-given x r e = given (refused x) refl
-  where
-    given : (b : Bool) → refused x ≡ b → r ≡ root binary64 x
-    given true h = let none = e ∙ answer-refused x h in cc
-    given false h = let found = e ∙ answer-given x h in cc
-
-pub root-refused : (x : Float) (k : ℕ) → Refused k ≡ answer x → nan ≡ root binary64 x
-root-refused x k e = found (refused x) refl
-  where
-    found : (b : Bool) → refused x ≡ b → nan ≡ root binary64 x
-    found true h = sym (no-root x h)
-    found false h = let given = e ∙ answer-given x h in cc

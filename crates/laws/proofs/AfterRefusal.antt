@@ -3,31 +3,26 @@ use Prim.Native.Nat.{ℕ, zero, suc}
 use native.Mathlib.Omega.{arith}
 use mathlib.Core.Path.{_≡_, refl}
 use mathlib.Core.Logic.{_≢_}
-use mathlib.Core.Bool.{_||_}
-use mathlib.Core.List.{List, [], _∷_}
-use lib.ListN.{getD}
-use lib.Ieee.{Float, binary64, isNan}
+use mathlib.Core.List.{List, []}
+use lib.ListN.{getD, drop}
+use lib.Ieee.{Float, binary64}
+use borrow.Author.Tests.{eq-eqb, ne-eqb}
 use Rattle.rounding.specs.Root.{root}
 use Rattle.shapes.specs.declared.point.Point.{Point}
 use Rattle.shapes.specs.declared.circle.Circle.{Circle}
 use Rattle.shapes.specs.declared.rectangle.Rectangle.{Rectangle}
-use Rattle.scope.specs.Numbers.{_<ᶠ_, nought, golden}
+use Rattle.scope.specs.Numbers.{golden}
 use Rattle.scope.specs.Runs.{filled}
-use Rattle.scope.specs.Limits.{circleCap}
-use Rattle.scope.specs.Refusals.{Answer, refused, given, answer, refusal, pointsRefusal, pairRefusal, circlePointRefusal, circlesRefusal, regionsRefusal, columnsRefusal, packRefusal, containerRefusal, layoutRefusal}
-use Rattle.scope.specs.Distance.{rootAnswer, distance, distanceAnswer, circleDistance, circleDistanceAnswer, contains, containsAnswer, containsPoint, containsPointAnswer, intersects, intersectsAnswer}
+use Rattle.scope.specs.Refusals.{refused, given, answer, pointsRefusal, pairRefusal, circlePointRefusal, circlesRefusal, regionsRefusal, columnsRefusal, packRefusal, containerRefusal, layoutRefusal}
+use Rattle.scope.specs.Distance.{rootRefusal, rootAnswer, distance, distanceAnswer, circleDistance, circleDistanceAnswer, contains, containsAnswer, containsPoint, containsPointAnswer, intersects, intersectsAnswer}
 use Rattle.scope.specs.Links.{regions}
-use Rattle.scope.specs.Groups.{Clusters, Grouping, clusters, plainClusters, grouping, areaGrouping, plainGrouping}
-use Rattle.scope.specs.Packing.{Packing, columns, columnsAnswer, packing, packed, noRectangle, skylinePack}
-use Rattle.scope.specs.Container.{Contained, settled, containedAnswer, contained}
+use Rattle.scope.specs.Groups.{Clusters, Grouping, clusters, plainClusters, refusedGrouping, acceptedGrouping, grouping, areaGrouping, plainGrouping}
+use Rattle.scope.specs.Packing.{Packing, columns, columnsAnswer, packed, refusedPacking, acceptedPacking, packing, skylinePack}
+use Rattle.scope.specs.Container.{Contained, settled, refusedContainer, containedAnswer, contained}
 use Rattle.scope.specs.Layout.{Layout, arranged, refusedLayout, ifAccepted, layout}
+use Rattle.scope.specs.CardFile.{tag, body, fieldOf, fieldRefusal, readField, fieldBody}
+use Rattle.laws.specs.Answers.{Answers, refusalOf}
 use Rattle.laws.proofs.Runs.{getD-filled-any}
-
--- A call whose checks give `number` answers `answer`: the refused form at a refusal, `value` on acceptance. `numberOf` reads the number off an answer.
-pub record Answers {A : Type 0} (numberOf : A → ℕ) (number : ℕ) (answer : A) (refused : ℕ → A) (value : A) : Type 0 where
-  pub says : numberOf answer ≡ number
-  pub at-refusal : number ≢ 0 → answer ≡ refused number
-  pub on-acceptance : number ≡ 0 → answer ≡ value
 
 by-number : {A : Type 0} (numberOf : A → ℕ) (refuse call : ℕ → A) → numberOf (call 0) ≡ 0 → ((k : ℕ) → call (suc k) ≡ refuse (suc k)) → ((k : ℕ) → numberOf (refuse k) ≡ k)
     → (number : ℕ) → Answers numberOf number (call number) refuse (call 0)
@@ -41,15 +36,11 @@ filled-from-nothing c z i = getD-filled-any c z [] i
 
 -- ---- answers that are a value or a refusal
 
-abbrev pub refusalOf : {A : Type 0} → Answer A → ℕ
-refusalOf (refused k) = k
-refusalOf (given a) = 0
-
-answer-answers : {A : Type 0} (number : ℕ) (a : A) → Answers refusalOf number (answer number a) refused (given a)
+pub answer-answers : {A : Type 0} (number : ℕ) (a : A) → Answers refusalOf number (answer number a) refused (given a)
 unfolding answer
 answer-answers number a = by-number refusalOf refused (λ k. answer k a) refl (λ k. refl) (λ k. refl) number
 
-pub root-answers : (x : Float) → Answers refusalOf (refusal ((12, isNan x || (x <ᶠ nought)) ∷ [])) (rootAnswer x) refused (given (root binary64 x))
+pub root-answers : (x : Float) → Answers refusalOf (rootRefusal x) (rootAnswer x) refused (given (root binary64 x))
 unfolding rootAnswer
 root-answers x = answer-answers _ _
 
@@ -77,13 +68,18 @@ pub columns-answers : (k : ℕ) → Answers refusalOf (columnsRefusal k) (column
 unfolding columnsAnswer
 columns-answers k = answer-answers _ _
 
+pub read-field-answers : (file : List ℕ) (at : ℕ)
+    → Answers refusalOf (fieldRefusal (drop at file)) (readField file at) refused (given (fieldOf (tag (drop at file)) (body (drop at file))))
+unfolding readField
+read-field-answers file at = answer-answers _ _
+
+-- the body alone, which comes without a number
+pub field-body-answers : (file : List ℕ) (at : ℕ)
+    → (fieldRefusal (drop at file) ≢ 0 → fieldBody file at ≡ []) × (fieldRefusal (drop at file) ≡ 0 → fieldBody file at ≡ body (drop at file))
+unfolding fieldBody
+field-body-answers file at = (λ h. rw (ne-eqb (fieldRefusal (drop at file)) 0 h), λ h. rw (eq-eqb (fieldRefusal (drop at file)) 0 h))
+
 -- ---- clustering: no clusters, all numbers 0
-
-abbrev pub refusedGrouping : ℕ → Grouping
-refusedGrouping k = record { refusal = k; count = 0; numbers = filled circleCap 0 [] }
-
-abbrev pub acceptedGrouping : Clusters → Grouping
-acceptedGrouping g = record { refusal = 0; count = g .count; numbers = filled circleCap 0 (g .numbers) }
 
 grouping-answers : (number : ℕ) (g : Clusters) → Answers (λ (a : Grouping). a .refusal) number (grouping number g) refusedGrouping (acceptedGrouping g)
 unfolding grouping
@@ -101,20 +97,13 @@ plain-grouping-answers cs = grouping-answers (circlesRefusal cs) (plainClusters 
 
 -- ---- packing: all rectangles 0
 
-abbrev pub refusedPacking : ℕ → Packing
-refusedPacking k = record { refusal = k; rectangles = filled circleCap noRectangle [] }
-
 pub packing-answers : (rects : List Rectangle) (padding : Float)
-    → Answers (λ (a : Packing). a .refusal) (packRefusal rects padding) (skylinePack rects padding) refusedPacking
-    (record { refusal = 0; rectangles = filled circleCap noRectangle (packed golden rects padding) })
+    → Answers (λ (a : Packing). a .refusal) (packRefusal rects padding) (skylinePack rects padding) refusedPacking (acceptedPacking (packed golden rects padding))
 unfolding skylinePack packing
 packing-answers rects padding =
     by-number (λ a. a .refusal) refusedPacking (λ k. packing k (packed golden rects padding)) refl (λ k. refl) (λ k. refl) (packRefusal rects padding)
 
 -- ---- container: it and the circles as given
-
-abbrev pub refusedContainer : List Circle → Rectangle → ℕ → Contained
-refusedContainer cs container k = record { refusal = k; container = container; circles = cs }
 
 pub container-answers : (cs : List Circle) (container : Rectangle)
     → Answers (λ (a : Contained). a .refusal) (containerRefusal cs container) (contained cs container) (refusedContainer cs container) (settled container cs)

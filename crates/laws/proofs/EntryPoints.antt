@@ -6,19 +6,20 @@ use mathlib.Core.Bool.{not, _&&_, _||_}
 use mathlib.Core.List.{List, [], _∷_}
 use lib.ListN.{length}
 use lib.Dec.{eqb}
-use lib.Ieee.{Float, isNan}
+use lib.Ieee.{Float}
 use Rattle.shapes.specs.declared.point.Point.{Point}
 use Rattle.shapes.specs.declared.circle.Circle.{Circle}
 use Rattle.shapes.specs.declared.rectangle.Rectangle.{Rectangle}
-use Rattle.scope.specs.Numbers.{_<ᶠ_, nought}
 use Rattle.scope.specs.Runs.{any}
 use Rattle.scope.specs.Limits.{circleCap}
-use Rattle.scope.specs.Refusals.{causes, causeHolds, refusal, tooMany, unequal, tooManyRegions, badPoint, badCentre, badRadius, rising, badFactor, badSide, badPadding, pointsRefusal, pairRefusal, circlePointRefusal, circlesRefusal, regionsRefusal, columnsRefusal, packRefusal, containerRefusal, layoutRefusal}
+use Rattle.scope.specs.Refusals.{causes, causeHolds, tooMany, unequal, tooManyRegions, badPoint, badCentre, badRadius, rising, badFactor, badSide, badPadding, pointsRefusal, pairRefusal, circlePointRefusal, circlesRefusal, regionsRefusal, columnsRefusal, packRefusal, containerRefusal, layoutRefusal}
+use Rattle.scope.specs.Distance.{noRoot, rootRefusal}
 use Rattle.scope.specs.CardFile.{Card, tag, headCut, bodyCut, unknown, wrongLength, misplaced, fieldRefusal, firstRefusal, nextRefusal}
-use Rattle.laws.proofs.FrontToBack.{Reads, front-to-back-reads, refusal-reads, only-for-its-cause}
+use Rattle.laws.specs.BothWays.{Reads}
+use Rattle.laws.proofs.FrontToBack.{front-to-back-reads, refusal-reads, only-for-its-cause}
 
-pub root-reads : (x : Float) → Reads (refusal ((12, isNan x || (x <ᶠ nought)) ∷ [])) ((12, isNan x || (x <ᶠ nought)) ∷ [])
-unfolding causes
+pub root-reads : (x : Float) → Reads (rootRefusal x) ((12, noRoot x) ∷ [])
+unfolding rootRefusal causes
 root-reads x = refusal-reads _ tt tt
 
 pub points-reads : (p q : Point) → Reads (pointsRefusal p q) ((3, badPoint p || badPoint q) ∷ [])

@@ -1,12 +1,13 @@
 -- Checks that stand in the order of the causes run front to back: the number is that of the first check whose cause holds.
 use Prim.Native.Nat.{ℕ}
 use mathlib.Core.Path.{_≡_, refl, sym, _∙_}
-use mathlib.Core.Logic.{_↔_, _⊎_, inl, inr, ⊎-elim, _≢_}
+use mathlib.Core.Logic.{_↔_, inl, inr, ⊎-elim, _≢_}
 use mathlib.Core.Bool.{Bool, true, false, not, _&&_, cond, or-false}
 use mathlib.Core.List.{List, [], _∷_, List·Memᴰ, List·Memᴰ·head, List·Memᴰ·tail, Memᴰ·cast}
 use lib.Dec.{T, eqb, eqb-refl}
 use Rattle.scope.specs.Runs.{any}
 use Rattle.scope.specs.Refusals.{causes, Checks, causeHolds, first, refusal, frontToBack}
+use Rattle.laws.specs.BothWays.{ComesBack, NoneHolds, Reads}
 use Rattle.laws.proofs.Cases.{or-iff, and-iff, not-iff, cond-iff, eqb-iff, tested, is-true, is-false}
 use Rattle.laws.proofs.Runs.{any-iff}
 
@@ -73,15 +74,6 @@ refusal-front-to-back cs o = first-in-order (causeHolds cs) causes cs tt o (λ k
 
 -- ---- the number of checks that run front to back
 
--- a check with the number k has a cause that holds, and none before it has
-abbrev pub ComesBack : Checks → ℕ → Type 0
-ComesBack [] k = ⊥
-ComesBack (c ∷ cs) k = ((c .0 ≡ k) × T (c .1)) ⊎ ((¬ T (c .1)) × ComesBack cs k)
-
-abbrev pub NoneHolds : Checks → Type 0
-NoneHolds [] = Unit {0}
-NoneHolds (c ∷ cs) = (¬ T (c .1)) × NoneHolds cs
-
 -- no check has the number 0
 abbrev pub numbered : Checks → Bool
 numbered [] = true
@@ -107,12 +99,6 @@ none-holds (c ∷ cs) o =
       | yes h ↦ rw (is-true (c .1) h) (λ e. absurd (not-iff (eqb (c .0) 0) .0 (positive .0) (eqb-iff (c .0) 0 .1 e)), λ f. absurd (f .0 tt))
       | no h ↦ rw (is-false (c .1) h) (λ e. ((λ t. t), rest .0 e), λ f. rest .1 (f .1))
     ]
-
--- the number that a call gives back, read off its checks both ways
-pub record Reads (number : ℕ) (cs : Checks) : Type 0 where
-  pub runs : number ≡ frontToBack cs
-  pub refused : (k : ℕ) → k ≢ 0 → (number ≡ k) ↔ ComesBack cs k
-  pub accepted : (number ≡ 0) ↔ NoneHolds cs
 
 pub front-to-back-reads : (cs : Checks) → T (numbered cs) → Reads (frontToBack cs) cs
 front-to-back-reads cs o = record { runs = refl; refused = comes-back cs; accepted = none-holds cs o }

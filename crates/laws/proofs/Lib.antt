@@ -14,5 +14,9 @@ pub mod OneMoreRegion
 pub mod Refusals
 pub mod FrontToBack
 pub mod EntryPoints
+pub mod CardFiles
+pub mod ByValue
+pub mod Decimal
+pub mod CardTexts
 pub mod Accepted
 pub mod MaskBits

@@ -5,7 +5,7 @@ use native.Mathlib.Decide.{decLe, decLt}
 use mathlib.Core.Path.{_≡_, refl, ap, subst}
 use mathlib.Core.Logic.{_↔_, _⊎_, inl, inr, ⊎-elim}
 use mathlib.Core.Bool.{Bool, cond}
-use mathlib.Core.List.{List, [], _∷_, List·Memᴰ, List·Memᴰ·head, List·Memᴰ·tail, List·Memᴰ·cases-cons, List·Memᴰ·not-nil}
+use mathlib.Core.List.{List, [], _∷_, _++_, List·Memᴰ, List·Memᴰ·head, List·Memᴰ·tail, List·Memᴰ·cases-cons, List·Memᴰ·not-nil}
 use lib.ListN.{length, getD, replicate, length-append, length-replicate, List·getD-append, List·getD-eq-default, getD-replicate}
 use lib.Seq.{getD-append-add}
 use lib.Dec.{T}
@@ -33,6 +33,11 @@ module _ {ℓ} {A : Type ℓ} where
   unfolding tab
   tab-equal zero f g e = refl
   tab-equal (suc n) f g e = rw (e 0 (omega arith), tab-equal n (λ i. f (suc i)) (λ i. g (suc i)) (λ i h. e (suc i) (omega arith)))
+
+  pub tab-last : (n : ℕ) (f : ℕ → A) → tab (suc n) f ≡ tab n f ++ (f n ∷ [])
+  unfolding tab
+  tab-last zero f = refl
+  tab-last (suc n) f = ap (λ l. f 0 ∷ l) (tab-last n (λ i. f (suc i)))
 
 -- ---- gather and inTurn: index n is taken last
 

@@ -15,6 +15,7 @@ use Rattle.scope.specs.Refusals.{tooMany}
 use Rattle.scope.specs.Runs.{tab}
 use Rattle.scope.specs.Container.{Contained, contained}
 use Rattle.scope.specs.Layout.{Layout as Whole, Result as Outcome, layout, refusedLayout}
+use Rattle.scope.specs.Twins.{firstLayout, firstContained}
 use Rattle.scope.specs.Promises.{Promises}
 use Rattle.promises.specs.Demand3.{bound}
 use Rattle.laws.proofs.Runs.{tab-equal}
@@ -24,7 +25,6 @@ use Rattle.intake.specs.Columns.{at, xsOf, ysOf, radiiOf, overwritten}
 use Rattle.intake.proofs.Counted.{few, by-many}
 use Rattle.layout.specs.Answers.{resultOf, placedOf}
 use Rattle.layout.specs.Contained.{frontContained, SettledAt, Settles}
-use Rattle.layout.specs.FirstLayout.{firstLayout, firstContained}
 use Rattle.layout.specs.Laid.{frontLayout, Laid, Lays}
 use Rattle.layout.specs.Recentred.{recentred, writtenOf}
 use Rattle.layout.specs.declared.normalize.Result.{Result}

@@ -6,7 +6,6 @@ pub mod Settling
 pub mod Answers
 pub mod Answered
 pub mod Recentred
-pub mod FirstLayout
 pub mod Laid
 pub mod Shown
 pub mod Contained

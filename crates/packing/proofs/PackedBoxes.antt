@@ -17,17 +17,17 @@ use Rattle.scope.specs.Numbers.{golden}
 use Rattle.scope.specs.Runs.{tab, filled, any}
 use Rattle.scope.specs.Limits.{circleCap, sideOk}
 use Rattle.scope.specs.Refusals.{causes, causeHolds, first, refusal, tooMany, badSide, packRefusal}
-use Rattle.scope.specs.Packing.{Packing, noRectangle, rectangle, widthAt, heightAt, packed, packing, skylinePack}
+use Rattle.scope.specs.Packing.{Packing, noRectangle, rectangle, widthAt, heightAt, packed, refusedPacking, packing, skylinePack}
+use Rattle.scope.specs.Twins.{firstPacking}
 use Rattle.laws.proofs.Cases.{is-false}
 use Rattle.laws.proofs.Accepted.{not-too-many-iff}
 use Rattle.laws.proofs.Runs.{length-tab, getD-tab}
-use Rattle.laws.proofs.AfterRefusal.{refusedPacking}
 use Rattle.intake.specs.Limits.{maxCircles}
 use Rattle.intake.specs.Columns.{at, overwritten, widthsOf, heightsOf}
 use Rattle.intake.proofs.Counted.{few, by-many, chosen, none-counted}
 use Rattle.intake.proofs.Columns.{any-either, not-both, length-widths, length-heights, width-at, height-at}
 use Rattle.intake.proofs.Splitting.{splitOf}
-use Rattle.packing.specs.Sides.{sided, sidesNumber, sidedPacking, firstPacking, centreXs, centreYs, boxAt, Sides}
+use Rattle.packing.specs.Sides.{sided, sidesNumber, sidedPacking, centreXs, centreYs, boxAt, Sides}
 use Rattle.packing.specs.Lists.{At}
 use Rattle.packing.proofs.Packings.{sided-sides, length-packed, packed-by-sides, boxed-at}
 
@@ -140,7 +140,7 @@ first-by-sides n ws hs rects pad long w h = by-many n (λ e. rw e) (λ e.
     }) pad)))
 
 -- ---- a run whose sides were written over two lists, unless there are too many boxes
-many-refused : (rects : List Rectangle) (pad : Float) → tooMany (length rects) ≡ true → packing 1 [] ≡ skylinePack rects pad
+many-refused : (rects : List Rectangle) (pad : Float) → tooMany (length rects) ≡ true → refusedPacking 1 ≡ skylinePack rects pad
 unfolding skylinePack packRefusal refusal first causeHolds causes packing
 many-refused rects pad h = rw h
 

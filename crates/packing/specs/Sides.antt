@@ -2,16 +2,16 @@
 use Prim.Native.Nat.{ℕ, _<_}
 use mathlib.Core.Path.{_≡_}
 use mathlib.Core.Bool.{cond}
-use mathlib.Core.List.{List, []}
+use mathlib.Core.List.{List}
 use lib.Dec.{eqb}
-use lib.ListN.{length, take}
+use lib.ListN.{length}
 use lib.Ieee.{Float}
 use Rattle.shapes.specs.Records.{pointAt, rectangleOf}
 use Rattle.shapes.specs.declared.rectangle.Rectangle.{Rectangle}
 use Rattle.scope.specs.Numbers.{nought, golden}
 use Rattle.scope.specs.Runs.{tab}
 use Rattle.scope.specs.Refusals.{tooMany, packRefusal}
-use Rattle.scope.specs.Packing.{Packing, rectangle, widthAt, heightAt, packed, packing, skylinePack}
+use Rattle.scope.specs.Packing.{Packing, rectangle, widthAt, heightAt, packed, refusedPacking, skylinePack}
 use Rattle.intake.specs.Columns.{at, overwritten}
 
 -- n boxes of these sides, wherever they stand
@@ -42,11 +42,7 @@ sidesNumber n widths heights padding = cond (tooMany n) 1 (packRefusal (sided n 
 
 -- the whole answer
 unfoldable pub sidedPacking : ℕ → List Float → List Float → Float → Packing
-sidedPacking n widths heights padding = cond (tooMany n) (packing 1 []) (skylinePack (sided n widths heights) padding)
-
--- the first n boxes of an array packed
-unfoldable pub firstPacking : ℕ → List Rectangle → Float → Packing
-firstPacking n rects padding = cond (tooMany n) (packing 1 []) (skylinePack (take n rects) padding)
+sidedPacking n widths heights padding = cond (tooMany n) (refusedPacking 1) (skylinePack (sided n widths heights) padding)
 
 -- boxes of these sides
 pub record Sides (k : ℕ) (widths heights : List Float) (rects : List Rectangle) : Type 0 where

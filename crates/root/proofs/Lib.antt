@@ -4,4 +4,3 @@ pub mod ScaleLaws
 pub mod PatternLaws
 pub mod NearestLaws
 pub mod AnswerLaws
-pub mod AsDefined

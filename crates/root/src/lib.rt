@@ -2,8 +2,9 @@
 ghost use mathlib.Core.Path.{_≡_};
 ghost use Prim.Native.Nat.{_<_};
 ghost use lib.Ieee.{binary64, ofBits};
+ghost use Rattle.rounding.specs.Root.{root};
 ghost use Rattle.scope.specs.Distance.{rootAnswer};
-ghost use Rattle.root.specs.Answer.{answer, nearest, rooted};
+ghost use Rattle.root.specs.Answer.{rooted};
 ghost use Rattle.root.specs.Parts.{infinity};
 
 pub mod answers;
@@ -19,8 +20,7 @@ const MINUS_ZERO: u64 = 9223372036854775808;
 
 // The f64 nearest the exact root; -0 gives -0, and +infinity itself. NaN and a number below 0 are refused, by 12.
 pub fn root(x: f64) -> Root
-    ensures is { λ r. ⌜ r ≡ answer x ⌝ }
-    ensures defined { λ r. ⌜ rooted r ≡ rootAnswer x ⌝ }
+    ensures { λ r. ⌜ rooted r ≡ rootAnswer x ⌝ }
 {
     if x != x {
         return Root::Refused(12);
@@ -43,7 +43,7 @@ pub fn root(x: f64) -> Root
 // The root of the number above 0 that has the pattern b.
 fn positive(b: u64) -> f64
     requires { ⌜ (0 < b) × (b < infinity) ⌝ }
-    ensures { λ r. ⌜ r ≡ nearest (ofBits binary64 b) ⌝ }
+    ensures { λ r. ⌜ r ≡ root binary64 (ofBits binary64 b) ⌝ }
 {
     let p = pattern::split(b);
     let w = whole::root_54(p.digits);

@@ -2,3 +2,4 @@ pub mod Value
 pub mod Extremes
 pub mod Root
 pub mod Scale
+pub mod NearestRoot

@@ -94,6 +94,10 @@ pub record Card : Type 0 where
   pub patterns : List ℕ
   pub areas : List Float
 
+-- a card with the factor alone
+abbrev pub started : Float → Card
+started factor = record { factor = factor; circles = []; masks = []; patterns = []; areas = [] }
+
 -- a circle or a region more
 unfoldable pub withField : Card → List ℕ → Card
 withField card rest =
@@ -139,14 +143,16 @@ firstRefusal file =
 
 unfoldable pub readFile : List ℕ → Answer Card
 readFile file =
-    let start : Card = record { factor = floatOf (word (body file) 0); circles = []; masks = []; patterns = []; areas = [] } in
-    let more = fields (headLength + bodyLength 1) start file in
+    let more = fields (headLength + bodyLength 1) (started (floatOf (word (body file) 0))) file in
     orRefused (firstRefusal file) more
 
 -- "Then values, by the table."
+abbrev pub valuesRefusal : Card → ℕ
+valuesRefusal card = layoutRefusal (card .circles) (card .factor) (card .masks) (card .areas)
+
 unfoldable pub valued : Answer Card → Answer Card
 valued (refused k) = refused k
-valued (given card) = answer (layoutRefusal (card .circles) (card .factor) (card .masks) (card .areas)) card
+valued (given card) = answer (valuesRefusal card) card
 
 unfoldable pub readCard : List ℕ → Answer Card
 readCard file = valued (readFile file)

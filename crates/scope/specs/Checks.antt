@@ -14,9 +14,9 @@ use Rattle.scope.specs.Refusals.{refused, given, layoutRefusal}
 use Rattle.shapes.specs.Records.{pointAt, circleOf, rectangleOf}
 use Rattle.scope.specs.Distance.{rootAnswer, distanceAnswer, circleDistanceAnswer, containsPointAnswer}
 use Rattle.scope.specs.Links.{regions}
-use Rattle.scope.specs.Groups.{Grouping, areaGrouping, plainGrouping, clusters}
+use Rattle.scope.specs.Groups.{refusedGrouping, areaGrouping, plainGrouping, clusters}
 use Rattle.scope.specs.Tolerance.{tolerance}
-use Rattle.scope.specs.Packing.{skylinePack, columnsAnswer, rows, noRectangle}
+use Rattle.scope.specs.Packing.{skylinePack, columnsAnswer, rows, noRectangle, refusedPacking}
 use Rattle.scope.specs.Container.{contained}
 use Rattle.scope.specs.CardFile.{factorField, circleField, regionField, Card, readField, fieldBody, nextRefusal}
 use Rattle.scope.specs.Text.{bytes}
@@ -101,9 +101,6 @@ ranges =
     }
 
 -- ---- clusters
-
-abbrev pub refusedGrouping : ℕ → Grouping
-refusedGrouping k = record { refusal = k; count = 0; numbers = filled circleCap 0 [] }
 
 pub record GroupChecks : Type 0 where
   -- a chain of three
@@ -359,8 +356,8 @@ pub record PackingChecks : Type 0 where
             ∷ squareBox (fin false 15 (negsuc 1)) (fin false 5 (negsuc 1)) (whole 2)
             ∷ []);
       }
-  pub bad-side : skylinePack (box (neg one) ∷ []) nan ≡ record { refusal = 7; rectangles = filled circleCap noRectangle [] }
-  pub bad-padding : skylinePack (box one ∷ []) nan ≡ record { refusal = 8; rectangles = filled circleCap noRectangle [] }
+  pub bad-side : skylinePack (box (neg one) ∷ []) nan ≡ refusedPacking 7
+  pub bad-padding : skylinePack (box one ∷ []) nan ≡ refusedPacking 8
   -- "No boxes have 0 columns."
   pub columns-0 : columnsAnswer 0 ≡ given 0
   pub columns-65 : columnsAnswer 65 ≡ refused 1

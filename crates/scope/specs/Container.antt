@@ -51,9 +51,12 @@ settled container cs =
     record { refusal = 0; container = container′; circles = centredIn container′ along }
 
 -- "after any refusal it comes back as given"
+abbrev pub refusedContainer : List Circle → Rectangle → ℕ → Contained
+refusedContainer cs container k = record { refusal = k; container = container; circles = cs }
+
 unfoldable pub containedAnswer : ℕ → Rectangle → List Circle → Contained → Contained
 containedAnswer zero container cs r = r
-containedAnswer (suc k) container cs r = record { refusal = suc k; container = container; circles = cs }
+containedAnswer (suc k) container cs r = refusedContainer cs container (suc k)
 
 unfoldable pub contained : List Circle → Rectangle → Contained
 contained cs container =

@@ -1,4 +1,5 @@
 -- Document 01, "Root and distance", and of "clustering.rs" the tests of circle.rs.
+use Prim.Native.Nat.{ℕ}
 use mathlib.Core.Bool.{Bool, _&&_, _||_, cond}
 use mathlib.Core.List.{[], _∷_}
 use lib.Ieee.{Float, binary64, isNan}
@@ -8,9 +9,16 @@ use Rattle.shapes.specs.declared.circle.Circle.{Circle}
 use Rattle.scope.specs.Numbers.{_+ᶠ_, _-ᶠ_, _*ᶠ_, _<ᶠ_, _≤ᶠ_, nought, abs}
 use Rattle.scope.specs.Refusals.{Answer, answer, refusal, pointsRefusal, pairRefusal, circlePointRefusal}
 
--- "The root is the f64 nearest the exact root; -0 gives -0, infinity itself"; refusal 12, "root of NaN or of a number below 0"
+-- 12, "root of NaN or of a number below 0"
+unfoldable pub noRoot : Float → Bool
+noRoot x = isNan x || (x <ᶠ nought)
+
+unfoldable pub rootRefusal : Float → ℕ
+rootRefusal x = refusal ((12, noRoot x) ∷ [])
+
+-- "The root is the f64 nearest the exact root; -0 gives -0, infinity itself"
 unfoldable pub rootAnswer : Float → Answer Float
-rootAnswer x = answer (refusal ((12, isNan x || (x <ᶠ nought)) ∷ [])) (root binary64 x)
+rootAnswer x = answer (rootRefusal x) (root binary64 x)
 
 -- "with x and y the coordinate differences, the stand-in is the root of (x*x + y*y), each step rounded"
 unfoldable pub distance : Point → Point → Float

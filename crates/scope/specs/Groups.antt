@@ -45,9 +45,15 @@ pub record Grouping : Type 0 where
   pub count : ℕ
   pub numbers : List ℕ
 
+abbrev pub refusedGrouping : ℕ → Grouping
+refusedGrouping k = record { refusal = k; count = 0; numbers = filled circleCap 0 [] }
+
+abbrev pub acceptedGrouping : Clusters → Grouping
+acceptedGrouping g = record { refusal = 0; count = g .count; numbers = filled circleCap 0 (g .numbers) }
+
 unfoldable pub grouping : ℕ → Clusters → Grouping
-grouping zero g = record { refusal = 0; count = g .count; numbers = filled circleCap 0 (g .numbers) }
-grouping (suc k) g = record { refusal = suc k; count = 0; numbers = filled circleCap 0 [] }
+grouping zero g = acceptedGrouping g
+grouping (suc k) g = refusedGrouping (suc k)
 
 -- `find_clusters_from_exclusive_regions`
 unfoldable pub areaGrouping : ℕ → List ℕ → List Float → Float → Grouping

@@ -14,6 +14,7 @@ pub mod Padding
 pub mod Centring
 pub mod Layout
 pub mod Container
+pub mod Twins
 pub mod CardFile
 pub mod Text
 pub mod Print

@@ -101,9 +101,15 @@ pub record Packing : Type 0 where
   pub refusal : ℕ
   pub rectangles : List Rectangle
 
+abbrev pub refusedPacking : ℕ → Packing
+refusedPacking k = record { refusal = k; rectangles = filled circleCap noRectangle [] }
+
+abbrev pub acceptedPacking : List Rectangle → Packing
+acceptedPacking rects = record { refusal = 0; rectangles = filled circleCap noRectangle rects }
+
 unfoldable pub packing : ℕ → List Rectangle → Packing
-packing zero rects = record { refusal = 0; rectangles = filled circleCap noRectangle rects }
-packing (suc k) rects = record { refusal = suc k; rectangles = filled circleCap noRectangle [] }
+packing zero rects = acceptedPacking rects
+packing (suc k) rects = refusedPacking (suc k)
 
 unfoldable pub skylinePack : List Rectangle → Float → Packing
 skylinePack rects padding =

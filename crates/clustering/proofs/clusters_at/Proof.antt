@@ -2,7 +2,7 @@
 use mathlib.Core.Path.{_≡_, sym, ap, _∙_}
 use borrow.Author.Needs.{needs}
 use Rattle.scope.specs.Limits.{circleCap}
-use Rattle.laws.proofs.AfterRefusal.{refusedGrouping}
+use Rattle.scope.specs.Groups.{refusedGrouping}
 use Rattle.intake.proofs.CauseWords.{number-says}
 use Rattle.clustering.proofs.PlainClusters.{front-number, counted-refused, counted-few, counted-accepted}
 use Rattle.clustering.proofs.clusters_at.Statement.{statement}

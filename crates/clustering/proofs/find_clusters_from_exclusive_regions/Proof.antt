@@ -4,7 +4,8 @@ use mathlib.Core.List.{[], _∷_}
 use borrow.Author.Needs.{needs}
 use Rattle.scope.specs.Limits.{circleCap}
 use Rattle.scope.specs.Refusals.{regionsRefusal}
-use Rattle.laws.proofs.AfterRefusal.{area-grouping-answers, refusedGrouping}
+use Rattle.scope.specs.Groups.{refusedGrouping}
+use Rattle.laws.proofs.AfterRefusal.{area-grouping-answers}
 use Rattle.intake.proofs.CauseWords.{joined, number-says}
 use Rattle.clustering.proofs.AreaClusters.{regions-few, regions-equal, area-accepted, area-chains}
 use Rattle.clustering.proofs.find_clusters_from_exclusive_regions.Statement.{statement}

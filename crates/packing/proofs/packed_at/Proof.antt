@@ -1,7 +1,7 @@
 -- `packed_at` meets its contract: the refusal, or the boxes with their new centres.
 use mathlib.Core.Path.{_≡_, sym, ap, _∙_}
 use borrow.Author.Needs.{needs}
-use Rattle.laws.proofs.AfterRefusal.{refusedPacking}
+use Rattle.scope.specs.Packing.{refusedPacking}
 use Rattle.packing.proofs.PackedBoxes.{sided-refused, accepted-few, put-together}
 use Rattle.packing.proofs.packed_at.Statement.{statement}
 use Rattle.packing.proofs.packed_at.Tie as tie

@@ -12,11 +12,12 @@ use lib.Ieee.Fits.{two, two-le-pos}
 use lib.Ieee.Scale.{finite}
 use Rattle.algebra.proofs.Size.{either}
 use Rattle.rounding.specs.Root.{nearestRoot}
+use Rattle.rounding.specs.NearestRoot.{squareOf, squareOfRoot}
 use Rattle.rounding.specs.Value.{mag, negative, Fin}
 use Rattle.rounding.proofs.Value.{mag-of, sign-of, fin-of}
 use Rattle.rounding.proofs.Closest.{Half}
 use Rattle.rounding.proofs.Round.{rnd, rnd-near, rnd-relative, round-units, no-overflow}
-use Rattle.rounding.proofs.root.Nearest.{squareOf, squareOfRoot, halvesOf, scaleOf, scale-pos, nearest-root-is, nearest-root-size, square-le-root, root-le-square, fraction-le-scaled}
+use Rattle.rounding.proofs.root.Nearest.{halvesOf, scaleOf, scale-pos, nearest-root-is, nearest-root-size, square-le-root, root-le-square, fraction-le-scaled}
 
 -- ---- z is at most 2 ^ i half units above root(n) / 2 ^ k, at most as many below, and at most 2 ^ (prec + i) units
 pub record IsNearRoot (f : Format) (n k i : ℕ) (z : Float) : Type 0 where

@@ -12,26 +12,12 @@ use lib.Ieee.Fits.{two, two-le-pos}
 use lib.Ieee.Exact.{HasValue}
 use lib.Ieee.Scale.{finite}
 use Rattle.rounding.specs.Root.{halves, nearestRoot}
+use Rattle.rounding.specs.NearestRoot.{squareOf, squareOfRoot, IsNearestRoot}
 use Rattle.rounding.specs.Value.{mag, negative, Fin, lastDigit}
 use Rattle.rounding.proofs.Value.{held, mag-of, sign-of, fin-of}
 use Rattle.rounding.proofs.Round.{rnd, round-finite}
 use Rattle.rounding.proofs.Nearest.{rnd-below, rnd-above, rnd-tie, rnd-last}
 use Rattle.rounding.proofs.root.Whole.{halves-le, le-halves, le-of-halves, ge-of-halves, four-pow}
-
--- ---- c half units, c / (2 * 2 ^ low), against the root, root(n) / 2 ^ k: their squares, both times (2 * 2 ^ low * 2 ^ k) squared
-abbrev pub squareOf : ℕ → ℕ → ℕ
-squareOf k c = c * 2 ^ k * (c * 2 ^ k)
-
-abbrev pub squareOfRoot : Format → ℕ → ℕ
-squareOfRoot f n = n * (2 * 2 ^ low f * (2 * 2 ^ low f))
-
--- z is the value of f nearest root(n) / 2 ^ k. With a value w of f, the half-way point is mag z + mag w half units.
-pub record IsNearestRoot (f : Format) (n k : ℕ) (z : Float) : Type 0 where
-  pub fin : Fin f z
-  pub sign : negative z ≡ false
-  pub below : (w : Float) → Fin f w → mag f w < mag f z → squareOf k (mag f z + mag f w) ≤ squareOfRoot f n
-  pub above : (w : Float) → Fin f w → mag f z < mag f w → squareOfRoot f n ≤ squareOf k (mag f z + mag f w)
-  pub even : (w : Float) → Fin f w → (mag f z ≡ mag f w → ⊥) → squareOf k (mag f z + mag f w) ≡ squareOfRoot f n → lastDigit f (mag f z) ≡ 0
 
 -- ---- what `nearestRoot` rounds: the fraction halvesOf / scaleOf
 abbrev spare : Format → ℕ → ℕ

@@ -15,10 +15,11 @@ use lib.Ieee.Scale.{finite}
 use lib.Ieee.Exact.{HasValue, round-exact}
 use Rattle.algebra.proofs.Size.{either}
 use Rattle.rounding.specs.Root.{nearestRoot}
+use Rattle.rounding.specs.NearestRoot.{squareOf, squareOfRoot, IsNearestRoot}
 use Rattle.rounding.specs.Value.{mag, Fin, lastDigit}
 use Rattle.rounding.proofs.Value.{Held, held, mag-of, fin-of, mag-below}
 use Rattle.rounding.proofs.Unique.{val-unique}
-use Rattle.rounding.proofs.root.Nearest.{squareOf, squareOfRoot, IsNearestRoot, nearest-root}
+use Rattle.rounding.proofs.root.Nearest.{nearest-root}
 
 -- ---- numbers of p digits: w has them at exponent d where it is at least 2 ^ (p - 1 + d), or d is 0
 abbrev Reaches : ℕ → ℕ → ℕ → Type 0

@@ -14,10 +14,10 @@ use lib.Ieee.Fits.{two, reach}
 use lib.Ieee.Scale.{finite}
 use Rattle.algebra.proofs.Size.{either}
 use Rattle.rounding.specs.Root.{nearestRoot, root}
+use Rattle.rounding.specs.NearestRoot.{squareOfRoot}
 use Rattle.rounding.specs.Value.{mag, negative, Fin}
 use Rattle.rounding.proofs.Value.{fin-finite, mag-zero, mag-below}
 use Rattle.rounding.proofs.Unique.{val-unique}
-use Rattle.rounding.proofs.root.Nearest.{squareOfRoot}
 use Rattle.rounding.proofs.root.Error.{nearest-root-near, nearest-root-le, le-nearest-root}
 use Rattle.rounding.proofs.root.Units.{IsUnitsRoot, RootIs, units-root, units-root-near, units-root-unique, cancel-le, cancel-ge, spread-ge, quarter-le, quarter-ge}
 

@@ -13,13 +13,14 @@ use lib.Ieee.Fits.{two, two-le-pos}
 use lib.Ieee.Order.{drop, kept}
 use Rattle.algebra.proofs.Size.{either}
 use Rattle.rounding.specs.Root.{nearestRoot}
+use Rattle.rounding.specs.NearestRoot.{squareOf, squareOfRoot}
 use Rattle.rounding.specs.Value.{mag, negative, Fin}
 use Rattle.rounding.proofs.Value.{Held, held, mag-of, sign-of, fin-of}
 use Rattle.rounding.proofs.Closest.{Half, Midway, closest-half}
 use Rattle.rounding.proofs.Round.{rnd, rnd-le, drop-le, round-units, no-overflow}
 use Rattle.rounding.proofs.Nearest.{rnd-tie}
 use Rattle.rounding.proofs.Unique.{val-unique}
-use Rattle.rounding.proofs.root.Nearest.{squareOf, squareOfRoot, halvesOf, scaleOf, scale-pos, nearest-root-is, square-le-root, root-le-square, scaled-le-fraction, fraction-le-scaled}
+use Rattle.rounding.proofs.root.Nearest.{halvesOf, scaleOf, scale-pos, nearest-root-is, square-le-root, root-le-square, scaled-le-fraction, fraction-le-scaled}
 
 -- ---- of a fraction: how many digits are dropped, and the one number of that many
 drop-ge : (p n den d : ℕ) → 0 < p → 0 < den → (0 < d → 2 ^ (p - 1 + d) * den ≤ n) → d ≤ drop p n den

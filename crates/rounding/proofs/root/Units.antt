@@ -10,8 +10,9 @@ use lib.Pow.{pow-pos}
 use lib.Ieee.{Float, Format, prec, emax, low}
 use lib.Ieee.Scale.{finite}
 use Rattle.rounding.specs.Root.{nearestRoot}
+use Rattle.rounding.specs.NearestRoot.{squareOf, squareOfRoot}
 use Rattle.rounding.specs.Value.{mag, negative, Fin, lastDigit}
-use Rattle.rounding.proofs.root.Nearest.{squareOf, squareOfRoot, nearest-root}
+use Rattle.rounding.proofs.root.Nearest.{nearest-root}
 use Rattle.rounding.proofs.root.Error.{nearest-root-near}
 use Rattle.rounding.proofs.root.Unique.{nearest-root-unique}
 

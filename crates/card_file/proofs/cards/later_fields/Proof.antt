@@ -4,7 +4,8 @@ use native.Mathlib.Omega.{arith}
 use borrow.Author.Needs.{needs}
 use mathlib.Core.Path.{refl, sym, _∙_}
 use lib.ListN.{length}
-use Rattle.card_file.proofs.Reading.{SoFar, nothing-yet, stops, next-is-whole, refusal-is, circle-fits, region-fits, turn, with-circle, with-region, all-read}
+use Rattle.laws.proofs.CardFiles.{stops}
+use Rattle.card_file.proofs.Reading.{SoFar, nothing-yet, next-is-whole, refusal-is, circle-fits, region-fits, turn, with-circle, with-region, all-read}
 use mathlib.Core.Path.{subst}
 use mathlib.Core.Logic.{inl, inr}
 use lib.ListN.{drop, replicate}

@@ -3,7 +3,8 @@ use borrow.Author.Needs.{needs}
 use mathlib.Core.Path.{sym, ap, _∙_}
 use Rattle.card_file.proofs.FieldLaws.{body-inside, refused-answer}
 use Rattle.card_file.proofs.Filling.{refused-is-blank}
-use Rattle.card_file.proofs.Reading.{first-is-whole, after-factor, nothing-after}
+use Rattle.laws.proofs.CardFiles.{after-factor, nothing-after}
+use Rattle.card_file.proofs.Reading.{first-is-whole}
 use Rattle.scope.specs.Refusals.{refused}
 use Rattle.card_file.proofs.cards.read_file.Statement.{statement}
 use Rattle.card_file.proofs.cards.read_file.Tie as tie

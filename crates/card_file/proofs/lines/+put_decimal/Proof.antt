@@ -5,7 +5,7 @@ use borrow.Author.Needs.{needs}
 use borrow.Fn.Kinds.{In}
 use borrow.Fn.PlainCycle.{Measures, is, falls, and}
 use Rattle.card_file.proofs.Putting.{put-only, put-last}
-use Rattle.card_file.proofs.Digits.{decimal-one, decimal-more, decimal-one-length, decimal-more-length}
+use Rattle.laws.proofs.Decimal.{decimal-one, decimal-more, decimal-one-length, decimal-more-length}
 use Rattle.card_file.proofs.lines.put_decimal.Reads as put-decimal
 use Rattle.card_file.proofs.lines.put_decimal.Kinds as put-decimal-kinds
 use Rattle.card_file.proofs.lines.+put_decimal.Lts-put_decimal as put-decimal-lts

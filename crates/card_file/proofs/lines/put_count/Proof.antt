@@ -2,7 +2,7 @@
 use native.Mathlib.Omega.{arith}
 use borrow.Author.Needs.{needs}
 use Rattle.card_file.proofs.Putting.{put-both}
-use Rattle.card_file.proofs.Digits.{word-length}
+use Rattle.laws.proofs.Decimal.{word-length}
 use Rattle.card_file.proofs.lines.put_count.Statement.{statement}
 use Rattle.card_file.proofs.lines.put_count.Tie as tie
 

@@ -2,7 +2,7 @@
 use native.Mathlib.Omega.{arith}
 use Rattle.scope.specs.Text.{bytes}
 use Rattle.card_file.proofs.Putting.{put-both}
-use Rattle.card_file.proofs.Digits.{byte-length}
+use Rattle.laws.proofs.Decimal.{byte-length}
 use Rattle.card_file.proofs.lines.put_pair.Statement.{statement}
 use Rattle.card_file.proofs.lines.put_pair.Tie as tie
 

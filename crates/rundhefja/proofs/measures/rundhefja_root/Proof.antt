@@ -17,11 +17,11 @@ enum-known-answer-2 : tie.Need-enum-known-answer-2
 enum-known-answer-2 c = search needs
 
 returns : tie.Need-returns
-returns c = ap lengthOf (ap rooted (sym (c .before .answer .given .1)) ∙ c .before .before .before .root .ensures .1)
+returns c = ap lengthOf (ap rooted (sym (c .before .answer .given .1)) ∙ c .before .before .before .root .ensures)
 
 returns-2 : tie.Need-returns-2
 unfolding ofBits
-returns-2 c = ap lengthOf (ap rooted (sym (c .before .answer2 .given .1)) ∙ c .before .before .before .root .ensures .1)
+returns-2 c = ap lengthOf (ap rooted (sym (c .before .answer2 .given .1)) ∙ c .before .before .before .root .ensures)
 
 pub rundhefja-root-spec : {M : Type 1} → statement M
 rundhefja-root-spec = tie.close (tie.spec root-requires enum-known-answer enum-known-answer-2 returns returns-2)

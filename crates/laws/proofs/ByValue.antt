@@ -1,0 +1,108 @@
+-- Each call by value, its number read off its checks both ways and its answer as a whole: the first n records are no more than n, so the call on them finds
+-- too many exactly if the count is too large.
+use Prim.Native.Nat.{ℕ, _≤_}
+use native.Mathlib.Nat.{min-le-left}
+use native.Mathlib.Omega.{arith}
+use mathlib.Core.Path.{_≡_, refl, ap, _∙_}
+use mathlib.Core.Bool.{cond}
+use mathlib.Core.List.{List, _∷_}
+use lib.ListN.{take, length, length-take, take-append-drop}
+use lib.Ieee.{Float}
+use Rattle.shapes.specs.declared.circle.Circle.{Circle}
+use Rattle.shapes.specs.declared.rectangle.Rectangle.{Rectangle}
+use Rattle.scope.specs.Numbers.{golden}
+use Rattle.scope.specs.Refusals.{Checks, frontToBack, tooMany}
+use Rattle.scope.specs.Links.{regions}
+use Rattle.scope.specs.Groups.{Grouping, plainClusters, refusedGrouping, acceptedGrouping}
+use Rattle.scope.specs.Packing.{Packing, packed, refusedPacking, acceptedPacking}
+use Rattle.scope.specs.Container.{Contained, settled, refusedContainer}
+use Rattle.scope.specs.Layout.{Layout, arranged, refusedLayout}
+use Rattle.scope.specs.Twins.{countedGrouping, firstGrouping, firstPacking, withOthers, firstLayout, withRest, firstContained}
+use Rattle.laws.specs.BothWays.{Reads}
+use Rattle.laws.specs.Answers.{Answers}
+use Rattle.laws.specs.ByValue.{firstCirclesChecks, firstPackChecks, firstContainerChecks, firstLayoutChecks}
+use Rattle.laws.proofs.Cases.{tested, is-true, is-false}
+use Rattle.laws.proofs.Accepted.{not-too-many-iff}
+use Rattle.laws.proofs.FrontToBack.{front-to-back-reads}
+use Rattle.laws.proofs.EntryPoints.{circles-reads, pack-reads, container-reads, layout-reads}
+use Rattle.laws.proofs.AfterRefusal.{plain-grouping-answers, packing-answers, container-answers, layout-answers}
+
+module _ {A : Type 0} {numberOf : A → ℕ} {refuse : ℕ → A} where
+  -- the call on the first n records, which are m, and a count that is too large before it
+  counted : {answer value : A} (n m : ℕ) (cs : Checks) → m ≤ n → ((k : ℕ) → numberOf (refuse k) ≡ k)
+      → Answers numberOf (frontToBack ((1, tooMany m) ∷ cs)) answer refuse value
+      → Answers numberOf (frontToBack ((1, tooMany n) ∷ cs)) (cond (tooMany n) (refuse 1) answer) refuse value
+  unfolding frontToBack
+  counted n m cs few named inner = elim (tested (tooMany n)) [
+    | yes h ↦ rw (is-true (tooMany n) h) (record { says = named 1; at-refusal = λ z. refl; on-acceptance = λ z. absurd (omega arith) })
+    | no h ↦
+        let room = not-too-many-iff n .0 h in
+        rw (is-false (tooMany n) h) (rw (is-false (tooMany m) (not-too-many-iff m .1 (omega arith))) at inner)
+  ]
+
+  -- an answer put into another
+  inside : {B : Type 0} {numberOf′ : B → ℕ} {refuse′ : ℕ → B} {number : ℕ} {answer value : A} (put : A → B) → ((a : A) → numberOf′ (put a) ≡ numberOf a)
+      → ((k : ℕ) → put (refuse k) ≡ refuse′ k) → Answers numberOf number answer refuse value → Answers numberOf′ number (put answer) refuse′ (put value)
+  inside put same refused inner = record {
+    says = same _ ∙ inner .says;
+    at-refusal = λ z. ap put (inner .at-refusal z) ∙ refused _;
+    on-acceptance = λ z. ap put (inner .on-acceptance z);
+  }
+
+first-few : {A : Type 0} (n : ℕ) (l : List A) → length (take n l) ≤ n
+first-few n l = rw length-take (min-le-left n (length l))
+
+-- ---- `find_clusters`
+
+module _ (n : ℕ) (cs : List Circle) where
+  pub first-grouping-answers :
+      Answers (λ (a : Grouping). a .refusal) (frontToBack (firstCirclesChecks n cs)) (firstGrouping n cs) refusedGrouping
+      (acceptedGrouping (plainClusters (take n cs)))
+  unfolding countedGrouping
+  first-grouping-answers = counted n _ _ (first-few n cs) (λ k. refl) (rw (circles-reads (take n cs) .runs) at (plain-grouping-answers (take n cs)))
+
+  pub first-grouping-reads : Reads (firstGrouping n cs .refusal) (firstCirclesChecks n cs)
+  first-grouping-reads = rw (first-grouping-answers .says) (front-to-back-reads _ tt)
+
+-- ---- packing
+
+module _ (n : ℕ) (rects : List Rectangle) (padding : Float) where
+  pub first-packing-answers :
+      Answers (λ (a : Packing). a .refusal) (frontToBack (firstPackChecks n rects padding)) (firstPacking n rects padding) refusedPacking
+      (acceptedPacking (packed golden (take n rects) padding))
+  unfolding firstPacking
+  first-packing-answers =
+      counted n _ _ (first-few n rects) (λ k. refl) (rw (pack-reads (take n rects) padding .runs) at (packing-answers (take n rects) padding))
+
+  pub first-packing-reads : Reads (firstPacking n rects padding .refusal) (firstPackChecks n rects padding)
+  first-packing-reads = rw (first-packing-answers .says) (front-to-back-reads _ tt)
+
+-- ---- container: it and all circles of the array as given
+
+module _ (n : ℕ) (cs : List Circle) (container : Rectangle) where
+  pub first-contained-answers :
+      Answers (λ (a : Contained). a .refusal) (frontToBack (firstContainerChecks n cs container)) (firstContained n cs container) (refusedContainer cs container)
+      (withRest n cs (settled container (take n cs)))
+  unfolding firstContained
+  first-contained-answers =
+      counted n _ _ (first-few n cs) (λ k. refl)
+      (inside (withRest n cs) (λ a. refl) (λ k. rw (take-append-drop n cs))
+      (rw (container-reads (take n cs) container .runs) at (container-answers (take n cs) container)))
+
+  pub first-contained-reads : Reads (firstContained n cs container .refusal) (firstContainerChecks n cs container)
+  first-contained-reads = rw (first-contained-answers .says) (front-to-back-reads _ tt)
+
+-- ---- whole layout: nothing but the number, and all circles of the array as given
+
+module _ (n : ℕ) (cs : List Circle) (factor : Float) (masks : List ℕ) (areas : List Float) where
+  pub first-layout-answers :
+      Answers (λ (l : Layout). l .result .refusal) (frontToBack (firstLayoutChecks n cs factor masks areas)) (firstLayout n cs factor masks areas)
+      (λ k. refusedLayout k cs) (withOthers n cs (arranged golden (take n cs) factor (regions masks areas)))
+  unfolding firstLayout refusedLayout
+  first-layout-answers =
+      counted n _ _ (first-few n cs) (λ k. refl)
+      (inside (withOthers n cs) (λ a. refl) (λ k. rw (take-append-drop n cs))
+      (rw (layout-reads (take n cs) factor masks areas .runs) at (layout-answers (take n cs) factor masks areas)))
+
+  pub first-layout-reads : Reads (firstLayout n cs factor masks areas .result .refusal) (firstLayoutChecks n cs factor masks areas)
+  first-layout-reads = rw (first-layout-answers .says) (front-to-back-reads _ tt)

@@ -1,0 +1,29 @@
+-- Lets one say what each call by value checks: first its count, then the first n records of the array and nothing past them.
+use Prim.Native.Nat.{ℕ}
+use mathlib.Core.Bool.{not, _||_}
+use mathlib.Core.List.{List, [], _∷_}
+use lib.ListN.{length, take}
+use lib.Ieee.{Float}
+use Rattle.shapes.specs.declared.circle.Circle.{Circle}
+use Rattle.shapes.specs.declared.rectangle.Rectangle.{Rectangle}
+use Rattle.scope.specs.Runs.{any}
+use Rattle.scope.specs.Refusals.{Checks, tooMany, unequal, tooManyRegions, badPoint, badCentre, badRadius, rising, badFactor, badSide, badPadding}
+
+-- `find_clusters`
+abbrev pub firstCirclesChecks : ℕ → List Circle → Checks
+firstCirclesChecks n cs = (1, tooMany n) ∷ (3, any badCentre (take n cs)) ∷ (4, any badRadius (take n cs)) ∷ []
+
+-- packing
+abbrev pub firstPackChecks : ℕ → List Rectangle → Float → Checks
+firstPackChecks n rects padding = (1, tooMany n) ∷ (7, any badSide (take n rects)) ∷ (8, badPadding padding) ∷ []
+
+-- `normalize_layout_with_container`
+abbrev pub firstContainerChecks : ℕ → List Circle → Rectangle → Checks
+firstContainerChecks n cs container =
+    (1, tooMany n) ∷ (3, any badCentre (take n cs) || badPoint (container .center)) ∷ (4, any badRadius (take n cs)) ∷ (7, badSide container) ∷ []
+
+-- the whole layout
+abbrev pub firstLayoutChecks : ℕ → List Circle → Float → List ℕ → List Float → Checks
+firstLayoutChecks n cs factor masks areas =
+    (1, tooMany n) ∷ (13, unequal masks areas) ∷ (2, tooManyRegions (length masks)) ∷ (3, any badCentre (take n cs)) ∷ (4, any badRadius (take n cs))
+    ∷ (5, not (rising masks)) ∷ (6, badFactor factor) ∷ []

@@ -1,0 +1,4 @@
+pub mod BothWays
+pub mod Answers
+pub mod CardFiles
+pub mod ByValue

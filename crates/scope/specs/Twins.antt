@@ -1,0 +1,44 @@
+-- Document 01, "first a by-value layout, then a thin call over the lent records": the calls on the first n records of an array of 64. A count above the cap
+-- gives 1 and no record is looked at; records at or past the count are neither checked nor changed; after a refusal the records come back as given.
+use Prim.Native.Nat.{ℕ}
+use mathlib.Core.Bool.{cond}
+use mathlib.Core.List.{List, _++_}
+use lib.ListN.{take, drop}
+use lib.Ieee.{Float}
+use Rattle.shapes.specs.declared.circle.Circle.{Circle}
+use Rattle.shapes.specs.declared.rectangle.Rectangle.{Rectangle}
+use Rattle.scope.specs.Refusals.{tooMany}
+use Rattle.scope.specs.Groups.{Grouping, refusedGrouping, plainGrouping}
+use Rattle.scope.specs.Packing.{Packing, refusedPacking, skylinePack}
+use Rattle.scope.specs.Container.{Contained, refusedContainer, contained}
+use Rattle.scope.specs.Layout.{Layout, layout, refusedLayout}
+
+-- ---- `find_clusters`
+
+-- the plain clustering of circles that are n by count; a count above the cap is refused, and no circle looked at
+unfoldable pub countedGrouping : ℕ → List Circle → Grouping
+countedGrouping n cs = cond (tooMany n) (refusedGrouping 1) (plainGrouping cs)
+
+-- of the first n circles of an array
+abbrev pub firstGrouping : ℕ → List Circle → Grouping
+firstGrouping n cs = countedGrouping n (take n cs)
+
+-- ---- `skyline_pack`: the first n boxes of an array packed
+unfoldable pub firstPacking : ℕ → List Rectangle → Float → Packing
+firstPacking n rects padding = cond (tooMany n) (refusedPacking 1) (skylinePack (take n rects) padding)
+
+-- ---- the whole layout of the first n circles of an array, and the circles past them as they were
+
+abbrev pub withOthers : ℕ → List Circle → Layout → Layout
+withOthers n cs l = record { result = l .result; circles = l .circles ++ drop n cs }
+
+unfoldable pub firstLayout : ℕ → List Circle → Float → List ℕ → List Float → Layout
+firstLayout n cs factor masks areas = cond (tooMany n) (refusedLayout 1 cs) (withOthers n cs (layout (take n cs) factor masks areas))
+
+-- ---- `normalize_layout_with_container`, likewise
+
+abbrev pub withRest : ℕ → List Circle → Contained → Contained
+withRest n cs r = record { refusal = r .refusal; container = r .container; circles = r .circles ++ drop n cs }
+
+unfoldable pub firstContained : ℕ → List Circle → Rectangle → Contained
+firstContained n cs container = cond (tooMany n) (refusedContainer cs container 1) (withRest n cs (contained (take n cs) container))
