@@ -4,7 +4,7 @@ use native.Mathlib.Omega.{arith}
 use native.Mathlib.Nat.{zero-div, zero-mod, sub-self, mul-pos}
 use mathlib.Core.Path.{_≡_, refl}
 use mathlib.Core.Bool.{Bool, true, false, not}
-use lib.IntN.{ℤ, pos, negsuc}
+use lib.IntN.{pos}
 use lib.Ieee.{Float, nan, inf, fin, binary64, up, down, size, span, climb, units, odd, round, nearest, sum, add, sub, neg, eq, ofBits}
 use lib.Ieee.Scale.{finite}
 use lib.Ieee.Fits.{down-pos}

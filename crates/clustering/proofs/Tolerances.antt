@@ -9,7 +9,7 @@ use lib.ListN.{length, getD}
 use Rattle.rounding.specs.Extremes.{maximum}
 use Rattle.scope.specs.Numbers.{_*ᶠ_, nought, one, e-10, abs}
 use Rattle.scope.specs.Runs.{gather, always}
-use Rattle.scope.specs.Links.{Region, regions}
+use Rattle.scope.specs.Links.{regions}
 use Rattle.scope.specs.Tolerance.{region, noRegion, largest, tolerance}
 use Rattle.laws.proofs.Regions.{length-regions, getD-regions}
 

@@ -1,7 +1,6 @@
 pub mod Beyond
 pub mod TrailingZeros
 pub mod Rising
-pub mod Counted
 pub mod Overwriting
 pub mod InPlace
 pub mod Columns

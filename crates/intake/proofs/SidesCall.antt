@@ -1,6 +1,6 @@
 -- A call of `split_sides` by a function that has a lent run of boxes and owns two arrays, as one step of its walk: the arrays are lent to be written, and come back.
 use Prim.Native.Nat.{ℕ, _<_, _^_}
-use mathlib.Core.Path.{_≡_, refl, ap, _∙_}
+use mathlib.Core.Path.{refl, ap, _∙_}
 use mathlib.Core.List.{List, [], _∷_}
 use lib.Ieee.{Float}
 use lib.ListN.{length}

@@ -1,6 +1,6 @@
 -- A call of `split` by a function that has a run of circles, lent or open, and owns three arrays, as one step of its walk: the arrays are lent to be written, and come back.
 use Prim.Native.Nat.{ℕ, _<_, _^_}
-use mathlib.Core.Path.{_≡_, refl, ap, _∙_}
+use mathlib.Core.Path.{refl, ap, _∙_}
 use mathlib.Core.List.{List, [], _∷_}
 use lib.Ieee.{Float}
 use lib.ListN.{length}

@@ -2,7 +2,7 @@
 use Prim.Native.Nat.{ℕ, _+_, _≤_, _<_, min}
 use native.Mathlib.Omega.{arith}
 use native.Mathlib.Numerals.{add-one}
-use mathlib.Core.Path.{_≡_, refl, _∙_}
+use mathlib.Core.Path.{_≡_, _∙_}
 use mathlib.Core.Bool.{false}
 use mathlib.Core.List.{List}
 use borrow.Author.Tests.{le-ltb}
@@ -17,7 +17,7 @@ use Rattle.intake.specs.CauseWords.{front}
 use Rattle.intake.specs.Columns.{xsOf, ysOf, radiiOf, overwritten}
 use Rattle.intake.specs.Splits.{takenOf, loaded}
 use Rattle.intake.proofs.Columns.{length-xs, length-ys, length-radii, length-shown, shown-back}
-use Rattle.intake.proofs.Counted.{few, by-many}
+use Rattle.laws.proofs.Counted.{few, by-many}
 use Rattle.intake.proofs.Overwriting.{over, over-next}
 use Rattle.intake.proofs.InPlace.{over-length}
 

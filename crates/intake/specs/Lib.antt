@@ -1,6 +1,5 @@
 pub mod Firsts
 pub mod Limits
-pub mod Counted
 pub mod Blanks
 pub mod Columns
 pub mod Splits

@@ -4,7 +4,7 @@ use Prim.Native.Nat.{ℕ, _≤_}
 use native.Mathlib.Nat.{min-le-left}
 use native.Mathlib.Omega.{arith}
 use mathlib.Core.Path.{_≡_, refl, ap, _∙_}
-use mathlib.Core.Bool.{cond}
+use mathlib.Core.Bool.{Bool, true, false, cond}
 use mathlib.Core.List.{List, _∷_}
 use lib.ListN.{take, length, length-take, take-append-drop}
 use lib.Ieee.{Float}
@@ -21,24 +21,28 @@ use Rattle.scope.specs.Twins.{countedGrouping, firstGrouping, firstPacking, wit
 use Rattle.laws.specs.BothWays.{Reads}
 use Rattle.laws.specs.Answers.{Answers}
 use Rattle.laws.specs.ByValue.{firstCirclesChecks, firstPackChecks, firstContainerChecks, firstLayoutChecks}
-use Rattle.laws.proofs.Cases.{tested, is-true, is-false}
+use Rattle.laws.proofs.Cases.{is-false}
 use Rattle.laws.proofs.Accepted.{not-too-many-iff}
+use Rattle.laws.proofs.Counted.{few, by-many}
 use Rattle.laws.proofs.FrontToBack.{front-to-back-reads}
 use Rattle.laws.proofs.EntryPoints.{circles-reads, pack-reads, container-reads, layout-reads}
 use Rattle.laws.proofs.AfterRefusal.{plain-grouping-answers, packing-answers, container-answers, layout-answers}
 
 module _ {A : Type 0} {numberOf : A → ℕ} {refuse : ℕ → A} where
-  -- the call on the first n records, which are m, and a count that is too large before it
+  -- a count that is too large before a call
+  pub unless-many : {number : ℕ} {answer value : A} (many : Bool) → ((k : ℕ) → numberOf (refuse k) ≡ k) → Answers numberOf number answer refuse value
+      → Answers numberOf (cond many 1 number) (cond many (refuse 1) answer) refuse value
+  unless-many true named inner = record { says = named 1; at-refusal = λ z. refl; on-acceptance = λ z. absurd (omega arith) }
+  unless-many false named inner = inner
+
+  -- and before the call on the first n records, which are m
   counted : {answer value : A} (n m : ℕ) (cs : Checks) → m ≤ n → ((k : ℕ) → numberOf (refuse k) ≡ k)
       → Answers numberOf (frontToBack ((1, tooMany m) ∷ cs)) answer refuse value
       → Answers numberOf (frontToBack ((1, tooMany n) ∷ cs)) (cond (tooMany n) (refuse 1) answer) refuse value
   unfolding frontToBack
-  counted n m cs few named inner = elim (tested (tooMany n)) [
-    | yes h ↦ rw (is-true (tooMany n) h) (record { says = named 1; at-refusal = λ z. refl; on-acceptance = λ z. absurd (omega arith) })
-    | no h ↦
-        let room = not-too-many-iff n .0 h in
-        rw (is-false (tooMany n) h) (rw (is-false (tooMany m) (not-too-many-iff m .1 (omega arith))) at inner)
-  ]
+  counted n m cs fewer named inner = by-many n (λ h. rw h (unless-many true named inner)) (λ h.
+      let room = few n h in
+      rw h (rw (is-false (tooMany m) (not-too-many-iff m .1 (omega arith))) at inner))
 
   -- an answer put into another
   inside : {B : Type 0} {numberOf′ : B → ℕ} {refuse′ : ℕ → B} {number : ℕ} {answer value : A} (put : A → B) → ((a : A) → numberOf′ (put a) ≡ numberOf a)

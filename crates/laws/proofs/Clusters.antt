@@ -1,7 +1,7 @@
 -- Demand 3's chain clause: two circles have one cluster number exactly if they are the same or a chain of regions joins them.
 -- Of the plain clustering: exactly if a walk of overlaps joins them.
 use Prim.Native.Nat.{ℕ, _<_}
-use mathlib.Core.Path.{_≡_, ap}
+use mathlib.Core.Path.{_≡_}
 use mathlib.Core.Logic.{_↔_, _⊎_, Iff·trans}
 use mathlib.Core.Bool.{Bool}
 use mathlib.Core.List.{List}
@@ -10,13 +10,9 @@ use lib.Dec.{T}
 use lib.Ieee.{Float}
 use Rattle.shapes.specs.declared.circle.Circle.{Circle}
 use Rattle.scope.specs.Runs.{filled}
-use Rattle.scope.specs.Links.{Region, regions, linkedByRegions, linkedByCircles, overlap, circle}
+use Rattle.scope.specs.Links.{Region, linkedByRegions, linkedByCircles, overlap, circle}
 use Rattle.scope.specs.Closure.{at}
 use Rattle.scope.specs.Groups.{clusters, plainClusters}
-use Rattle.scope.specs.Refusals.{layoutRefusal}
-use Rattle.scope.specs.Tolerance.{tolerance}
-use Rattle.scope.specs.Layout.{Layout, layout, arranged}
-use Rattle.scope.specs.Limits.{circleCap}
 use Rattle.scope.specs.Promises.{Chain}
 use Rattle.laws.proofs.Runs.{getD-filled-any}
 use Rattle.laws.proofs.Closure.{closed, Walk, Equivalence, orSame-equivalence, closure-iff-same-or-walk}
@@ -24,7 +20,6 @@ use Rattle.laws.proofs.Overlap.{overlap-swapped}
 use Rattle.laws.proofs.Chains.{closure-iff-chain, regions-equivalence}
 use Rattle.laws.proofs.Numbering.{Numbering}
 use Rattle.laws.proofs.Numbers.{clustersOf-numbering, same-entry-iff-marked}
-use Rattle.laws.proofs.AfterRefusal.{layout-answers}
 
 -- ---- by regions
 

@@ -15,6 +15,7 @@ pub mod Refusals
 pub mod FrontToBack
 pub mod EntryPoints
 pub mod CardFiles
+pub mod Counted
 pub mod ByValue
 pub mod Decimal
 pub mod CardTexts

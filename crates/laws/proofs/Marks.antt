@@ -10,7 +10,7 @@ use lib.Dec.{T}
 use Rattle.scope.specs.Runs.{tab}
 use Rattle.scope.specs.Closure.{Marks, marked, at, pass, passes}
 use Rattle.laws.proofs.Cases.{or-iff, and-iff, sum-iff}
-use Rattle.laws.proofs.Runs.{getD-tab, getD-tab-past, tab-equal}
+use Rattle.laws.proofs.Runs.{getD-tab, getD-tab-past}
 
 pub at-marked : (n : ℕ) (f : ℕ → ℕ → Bool) (i j : ℕ) → i < n → j < n → at (marked n f) i j ≡ f i j
 unfolding marked

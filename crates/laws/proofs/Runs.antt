@@ -4,12 +4,12 @@ use native.Mathlib.Omega.{arith}
 use native.Mathlib.Decide.{decLe, decLt}
 use mathlib.Core.Path.{_≡_, refl, ap, subst}
 use mathlib.Core.Logic.{_↔_, _⊎_, inl, inr, ⊎-elim}
-use mathlib.Core.Bool.{Bool, cond}
+use mathlib.Core.Bool.{Bool}
 use mathlib.Core.List.{List, [], _∷_, _++_, List·Memᴰ, List·Memᴰ·head, List·Memᴰ·tail, List·Memᴰ·cases-cons, List·Memᴰ·not-nil}
 use lib.ListN.{length, getD, replicate, length-append, length-replicate, List·getD-append, List·getD-eq-default, getD-replicate}
 use lib.Seq.{getD-append-add}
 use lib.Dec.{T}
-use Rattle.scope.specs.Runs.{tab, gather, inTurn, many, least, someBelow, any, filled}
+use Rattle.scope.specs.Runs.{tab, gather, many, least, someBelow, any, filled}
 use Rattle.laws.proofs.Cases.{or-iff, tested, is-true, is-false}
 
 -- ---- tab

@@ -3,18 +3,17 @@ use Prim.Native.Nat.{ℕ, _≤_}
 use native.Mathlib.Omega.{arith}
 use native.Mathlib.Decide.{ℕ-discrete}
 use mathlib.Core.Path.{_≡_, refl, sym, ap, _∙_}
-use mathlib.Core.Bool.{Bool, true, false}
+use mathlib.Core.Bool.{true, false}
 use mathlib.Core.List.{List}
 use lib.Ieee.{Float}
-use lib.ListN.{length, take, drop}
-use lib.Seq.{take-at}
+use lib.ListN.{length, take}
 use Rattle.shapes.specs.declared.circle.Circle.{Circle}
 use Rattle.scope.specs.Limits.{circleCap}
 use Rattle.scope.specs.Refusals.{tooMany}
 use Rattle.intake.specs.Limits.{maxCircles}
 use Rattle.intake.specs.CauseWords.{front}
-use Rattle.intake.specs.Columns.{circlesOf, xsOf, ysOf, radiiOf, overwritten}
-use Rattle.intake.proofs.Counted.{few, none-counted, of-run}
+use Rattle.intake.specs.Columns.{circlesOf, xsOf, ysOf, radiiOf}
+use Rattle.laws.proofs.Counted.{few, none-counted, of-run}
 use Rattle.intake.proofs.Columns.{length-radii}
 use Rattle.intake.proofs.Splitting.{splitOf, front-of-column, front-shown}
 use Rattle.layout.specs.Answered.{Answered}

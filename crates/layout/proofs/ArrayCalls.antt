@@ -1,8 +1,8 @@
 -- The calls on the first n circles of an array: the answer for those circles as a run, with the others behind them.
 use Prim.Native.Nat.{ℕ, zero, suc, _≤_}
 use native.Mathlib.Omega.{arith}
-use mathlib.Core.Path.{_≡_, refl, sym, ap, subst, _∙_}
-use mathlib.Core.Bool.{Bool, true, false, cond}
+use mathlib.Core.Path.{_≡_, sym, ap, subst, _∙_}
+use mathlib.Core.Bool.{true, false, cond}
 use mathlib.Core.List.{List, [], _++_, append-nil}
 use lib.Ieee.{Float}
 use lib.ListN.{length, take, drop, take-append-drop}
@@ -13,8 +13,8 @@ use Rattle.scope.specs.Limits.{circleCap}
 use Rattle.scope.specs.Links.{circle, nowhere, regions}
 use Rattle.scope.specs.Refusals.{tooMany}
 use Rattle.scope.specs.Runs.{tab}
-use Rattle.scope.specs.Container.{Contained, contained}
-use Rattle.scope.specs.Layout.{Layout as Whole, Result as Outcome, layout, refusedLayout}
+use Rattle.scope.specs.Container.{Contained}
+use Rattle.scope.specs.Layout.{Layout as Whole, Result as Outcome, refusedLayout}
 use Rattle.scope.specs.Twins.{firstLayout, firstContained}
 use Rattle.scope.specs.Promises.{Promises}
 use Rattle.promises.specs.Demand3.{bound}
@@ -22,8 +22,8 @@ use Rattle.laws.proofs.Runs.{tab-equal}
 use Rattle.intake.specs.Limits.{maxCircles}
 use Rattle.shapes.specs.Records.{circleOf}
 use Rattle.intake.specs.Columns.{at, xsOf, ysOf, radiiOf, overwritten}
-use Rattle.intake.proofs.Counted.{few, by-many}
-use Rattle.layout.specs.Answers.{resultOf, placedOf}
+use Rattle.laws.proofs.Counted.{few, by-many}
+use Rattle.layout.specs.Answers.{resultOf}
 use Rattle.layout.specs.Contained.{frontContained, SettledAt, Settles}
 use Rattle.layout.specs.Laid.{frontLayout, Laid, Lays}
 use Rattle.layout.specs.Recentred.{recentred, writtenOf}

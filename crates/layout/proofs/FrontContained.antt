@@ -3,7 +3,7 @@ use Prim.Native.Nat.{ℕ, _-_, _≤_}
 use native.Mathlib.Omega.{arith}
 use mathlib.Core.Path.{_≡_, refl, sym, _∙_}
 use mathlib.Core.Logic.{_≢_}
-use mathlib.Core.Bool.{Bool, true, false, cond, _||_}
+use mathlib.Core.Bool.{Bool, true, false, _||_}
 use mathlib.Core.List.{List, [], _∷_, _++_}
 use lib.Ieee.{Float}
 use lib.ListN.{length, take, drop}
@@ -24,7 +24,7 @@ use Rattle.scope.specs.Limits.{radiusOk}
 use Rattle.intake.specs.Limits.{maxCircles}
 use Rattle.intake.specs.Columns.{circlesOf, Lifted}
 use Rattle.intake.specs.CauseWords.{front}
-use Rattle.intake.proofs.Counted.{by-many, none-counted, counted-number}
+use Rattle.laws.proofs.Counted.{by-many, none-counted, counted-number}
 use Rattle.intake.proofs.Splitting.{few-in-front}
 use Rattle.intake.proofs.Columns.{length-shown}
 use Rattle.layout.specs.Answers.{placedOf}
@@ -49,7 +49,7 @@ module _ (n : ℕ) (xs ys rs : List Float) (container : Rectangle) where
       in-order (tooMany n) (any badCentre cs) (any badRadius cs) (badPoint (container .center)) (badSide container) ∙ counted-number n (length cs) _ (few-in-front n xs ys rs)
 
   pub number-none : containedNumber n xs ys rs container ≡ 0 → (n ≤ maxCircles) × (containerRefusal cs container ≡ 0)
-  unfolding containedNumber
+  unfolding containedNumber circleCap
   number-none z = let none = none-counted n (containerRefusal cs container) z in (none .1, none .2)
 
   -- ---- a refusal

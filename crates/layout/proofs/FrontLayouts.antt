@@ -1,22 +1,21 @@
 -- The layout of circles whose numbers stand in the front of three lists: its number, what is answered after a refusal, and after an acceptance.
-use Prim.Native.Nat.{ℕ, zero, suc, _-_, _≤_, _<_, min}
-use native.Mathlib.Nat.{sub-zero}
+use Prim.Native.Nat.{ℕ, _-_, _≤_, _<_}
 use native.Mathlib.Omega.{arith}
-use mathlib.Core.Path.{_≡_, refl, sym, ap, _∙_, subst}
+use mathlib.Core.Path.{_≡_, sym, ap, _∙_, subst}
 use mathlib.Core.Logic.{_≢_}
-use mathlib.Core.Bool.{Bool, true, false, not, cond}
+use mathlib.Core.Bool.{true, not}
 use mathlib.Core.List.{List, [], _∷_, _++_}
 use lib.Dec.{T}
 use lib.Ieee.{Float, nan, binary64, fits}
-use lib.ListN.{length, take, drop, length-take}
+use lib.ListN.{length, take, drop}
 use lib.Seq.{getD-take, take-at}
 use Rattle.shapes.specs.declared.circle.Circle.{Circle}
 use Rattle.scope.specs.Numbers.{golden}
 use Rattle.scope.specs.Runs.{any}
 use Rattle.scope.specs.Limits.{circleCap}
 use Rattle.scope.specs.Links.{regions}
-use Rattle.scope.specs.Refusals.{causes, causeHolds, first, refusal, tooMany, unequal, tooManyRegions, rising, badCentre, badRadius, badFactor, layoutRefusal}
-use Rattle.scope.specs.Layout.{Result as Outcome, Layout, layout, arranged, refusedLayout}
+use Rattle.scope.specs.Refusals.{refusal, tooMany, unequal, tooManyRegions, rising, badCentre, badRadius, badFactor, layoutRefusal}
+use Rattle.scope.specs.Layout.{Result as Outcome, Layout, arranged, refusedLayout}
 use Rattle.scope.specs.Promises.{Promises}
 use Rattle.promises.specs.Demand3.{bound, AreDoubles, Demand3}
 use Rattle.laws.proofs.Cases.{is-false}
@@ -26,7 +25,8 @@ use Rattle.promises.proofs.whole.Demand3.{layout-promises}
 use Rattle.intake.specs.Limits.{maxCircles}
 use Rattle.intake.specs.Columns.{at, circlesOf}
 use Rattle.intake.specs.CauseWords.{front}
-use Rattle.intake.proofs.Counted.{by-many, none-counted, counted-number}
+use Rattle.laws.proofs.Counted.{by-many, none-counted, counted-number}
+use Rattle.intake.proofs.CauseWords.{layout-checks}
 use Rattle.intake.proofs.Columns.{length-shown, shown-at}
 use Rattle.intake.proofs.Splitting.{length-front, few-in-front}
 use Rattle.layout.specs.Answers.{resultOf}
@@ -55,21 +55,16 @@ module _ (n : ℕ) (xs ys rs : List Float) (factor : Float) (masks : List ℕ) (
   abbrev cs : List Circle
   cs = front n xs ys rs
 
-  -- the order of a call's checks does not matter: that of the causes does
-  in-order : (b c r u m s f : Bool) → refusal ((1, b) ∷ (3, c) ∷ (4, r) ∷ (13, u) ∷ (2, m) ∷ (5, s) ∷ (6, f) ∷ []) ≡ refusal ((1, b) ∷ (13, u) ∷ (2, m) ∷ (3, c) ∷ (4, r) ∷ (5, s) ∷ (6, f) ∷ [])
-  unfolding refusal first causeHolds causes
-  in-order b c r u m s f = refl
-
   pub layout-number :
       refusal ((1, tooMany n) ∷ (3, any badCentre cs) ∷ (4, any badRadius cs) ∷ (13, unequal masks areas) ∷ (2, tooManyRegions (length masks)) ∷ (5, not (rising masks)) ∷ (6, badFactor factor) ∷ [])
       ≡ frontNumber n xs ys rs factor masks areas
   unfolding frontNumber layoutRefusal
   layout-number =
-      in-order (tooMany n) (any badCentre cs) (any badRadius cs) (unequal masks areas) (tooManyRegions (length masks)) (not (rising masks)) (badFactor factor)
+      layout-checks (tooMany n) (any badCentre cs) (any badRadius cs) (unequal masks areas) (tooManyRegions (length masks)) (not (rising masks)) (badFactor factor)
       ∙ counted-number n (length cs) _ (few-in-front n xs ys rs)
 
   pub number-none : frontNumber n xs ys rs factor masks areas ≡ 0 → (n ≤ maxCircles) × (layoutRefusal cs factor masks areas ≡ 0)
-  unfolding frontNumber
+  unfolding frontNumber circleCap
   number-none z = let none = none-counted n (layoutRefusal cs factor masks areas) z in (none .1, none .2)
 
   -- ---- a refusal

@@ -1,8 +1,8 @@
 -- The cores' answers for the arrays of a run are the layout of the run, and the run in its container.
 use Prim.Native.Nat.{ℕ, _≤_}
 use native.Mathlib.Omega.{arith}
-use mathlib.Core.Path.{_≡_, refl, sym, ap, subst, _∙_}
-use mathlib.Core.Bool.{Bool, true, false, cond}
+use mathlib.Core.Path.{_≡_, sym, ap, subst, _∙_}
+use mathlib.Core.Bool.{true, cond}
 use mathlib.Core.List.{List, []}
 use lib.Ieee.{Float}
 use lib.ListN.{length}
@@ -11,7 +11,7 @@ use Rattle.shapes.specs.declared.rectangle.Rectangle.{Rectangle}
 use Rattle.scope.specs.Links.{regions}
 use Rattle.scope.specs.Refusals.{tooMany, frontToBack, layoutRefusal, containerRefusal}
 use Rattle.scope.specs.Layout.{Layout, Result as Outcome, refusedLayout, layout}
-use Rattle.scope.specs.Container.{Contained, contained}
+use Rattle.scope.specs.Container.{contained}
 use Rattle.scope.specs.Promises.{Promises}
 use Rattle.promises.specs.Demand3.{bound}
 use Rattle.laws.proofs.EntryPoints.{layout-reads, container-reads}
@@ -19,8 +19,8 @@ use Rattle.laws.proofs.AfterRefusal.{layout-answers, container-answers}
 use Rattle.intake.specs.Limits.{maxCircles}
 use Rattle.intake.specs.CauseWords.{front}
 use Rattle.intake.specs.Columns.{xsOf, ysOf, radiiOf}
-use Rattle.intake.specs.Counted.{unlessMany}
-use Rattle.intake.proofs.Counted.{chosen, none-counted, of-run}
+use Rattle.scope.specs.Twins.{unlessMany}
+use Rattle.laws.proofs.Counted.{chosen, none-counted, of-run}
 use Rattle.intake.proofs.Splitting.{splitOf}
 use Rattle.layout.specs.Answered.{Answered}
 use Rattle.layout.specs.Answers.{resultOf, placedOf}

@@ -6,7 +6,7 @@ use mathlib.Core.List.{List}
 use lib.Ieee.{Float}
 use lib.ListN.{length, take}
 use Rattle.shapes.specs.declared.circle.Circle.{Circle}
-use Rattle.intake.specs.Counted.{unlessMany}
+use Rattle.scope.specs.Twins.{unlessMany}
 use Rattle.intake.specs.CauseWords.{front}
 
 unfoldable pub Answered : (List Circle → ℕ) → (List Circle → List Circle) → List Float → List Float → List Float → ℕ → ℕ → List Float → List Float → Type 0

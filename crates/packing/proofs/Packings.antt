@@ -3,7 +3,7 @@ use Prim.Native.Nat.{ℕ, _*_, _/_, _%_, _≤_, _<_, min}
 use native.Mathlib.Omega.{arith}
 use native.Mathlib.Nat.{mod-le, div-le-self, min-eq-left}
 use mathlib.Core.Path.{_≡_, refl, sym, ap, _∙_}
-use mathlib.Core.Bool.{Bool, true, false, not, cond, _||_, and-false}
+use mathlib.Core.Bool.{Bool, true, false, not, _||_, and-false}
 use mathlib.Core.List.{List, [], _∷_, _++_}
 use borrow.Author.Tests.{le-ltb}
 use lib.ListN.{length, getD, take, drop}
@@ -21,7 +21,7 @@ use Rattle.laws.proofs.Runs.{length-tab, getD-tab, tab-equal, many-equal, many-
 use Rattle.intake.specs.Columns.{at, overwritten}
 use Rattle.intake.specs.Limits.{maxCircles}
 use Rattle.intake.proofs.Columns.{any-either, not-both}
-use Rattle.intake.proofs.Counted.{few}
+use Rattle.laws.proofs.Counted.{few, by-many, at-once}
 use Rattle.packing.specs.Sides.{sided, sidesNumber, centreXs, centreYs, Sides}
 use Rattle.packing.specs.Lists.{At, Lined}
 use Rattle.packing.proofs.Arrays.{at-all}
@@ -187,19 +187,10 @@ module _ (n : ℕ) (ws hs : List Float) (pad : Float) (w : length ws ≡ maxCirc
   either-side m true b p = refl
   either-side m false b p = refl
 
-  at-once : (a b p : Bool) → refusal ((1, true) ∷ (7, a) ∷ (7, b) ∷ (8, p) ∷ []) ≡ 1
-  unfolding refusal first causeHolds causes
-  at-once a b p = refl
-
   pub sides-number : refusal ((1, tooMany n) ∷ (7, any long (take (min n maxCircles) ws)) ∷ (7, any long (take (min n maxCircles) hs)) ∷ (8, badPadding pad) ∷ []) ≡ sidesNumber n ws hs pad
   unfolding sidesNumber packRefusal circleCap
-  sides-number = by-test (tooMany n) refl
-    where
-      by-test : (b : Bool) → tooMany n ≡ b
-          → refusal ((1, b) ∷ (7, any long (take (min n maxCircles) ws)) ∷ (7, any long (take (min n maxCircles) hs)) ∷ (8, badPadding pad) ∷ []) ≡ cond b 1 (packRefusal (sided n ws hs) pad)
-      by-test true e = at-once _ _ (badPadding pad)
-      by-test false e =
-          let l : n ≤ maxCircles = few n e in
-          let first : refusal ((1, false) ∷ (7, any long (take n ws)) ∷ (7, any long (take n hs)) ∷ (8, badPadding pad) ∷ []) ≡ packRefusal (sided n ws hs) pad =
-          either-side false (any long (take n ws)) (any long (take n hs)) (badPadding pad) ∙ rw (sided-sides n ws hs .long, e, any-side l) in
-          rw (min-eq-left l) first
+  sides-number = by-many n (λ e. rw e (at-once _)) (λ e.
+      let l : n ≤ maxCircles = few n e in
+      let first : refusal ((1, false) ∷ (7, any long (take n ws)) ∷ (7, any long (take n hs)) ∷ (8, badPadding pad) ∷ []) ≡ packRefusal (sided n ws hs) pad =
+      either-side false (any long (take n ws)) (any long (take n hs)) (badPadding pad) ∙ rw (sided-sides n ws hs .long, e, any-side l) in
+      rw (e, min-eq-left l) first)

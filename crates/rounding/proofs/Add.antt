@@ -6,7 +6,7 @@ use native.Mathlib.Nat.{le-of-lt, mul-le-mul-right, le-of-mul-le-mul-right, mul-
 use native.Mathlib.Omega.{arith}
 use mathlib.Core.Bool.{Bool, true, false, not, cond, true≢false}
 use lib.Dec.{T, ltb, ltb→lt, nltb→le}
-use lib.Pow.{pow-pos, pow-add}
+use lib.Pow.{pow-pos}
 use lib.Ieee.{Float, nan, inf, fin, Format, prec, emax, low, up, down, round, sum, add, sub, neg}
 use lib.Ieee.Fits.{down-pos}
 use lib.Ieee.Scale.{finite}
@@ -14,9 +14,8 @@ use Rattle.algebra.specs.Integer.{Z, Within, _⊕_, _⊖_, _≈_}
 use Rattle.algebra.proofs.Size as algebra
 use Rattle.rounding.specs.Value.{mag, signed, negative, val, Fin}
 use Rattle.rounding.proofs.Value.{value-of}
-use Rattle.rounding.proofs.Rounded.{RoundOf, Rounded, Relative, recast, round-near, round-relative, round-exact, sign-kept}
-use Rattle.rounding.proofs.Round.{no-overflow}
-use Rattle.rounding.proofs.Negate.{neg-mag, neg-val, neg-fin}
+use Rattle.rounding.proofs.Rounded.{RoundOf, Rounded, Relative, recast, round-near, round-relative, sign-kept}
+use Rattle.rounding.proofs.Negate.{neg-val, neg-fin}
 
 -- ---- two fractions a / c and b / c, which are A and B units
 order : (a b c A B l : ℕ) → 0 < c → a * l ≡ A * c → b * l ≡ B * c → b ≤ a → B ≤ A

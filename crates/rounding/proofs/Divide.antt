@@ -7,11 +7,9 @@ use mathlib.Core.Bool.{Bool, true, false, cond}
 use lib.Dec.{T, eqb, eqb→eq}
 use lib.Ieee.{Float, nan, inf, fin, Format, prec, emax, low, up, down, round, div, unlike}
 use lib.Ieee.Fits.{down-pos}
-use lib.Ieee.Scale.{finite}
-use Rattle.algebra.specs.Integer.{Z, nat, Near, _⊕_, _⊗_}
-use Rattle.rounding.specs.Value.{mag, signed, negative, val, Fin}
+use Rattle.rounding.specs.Value.{mag, signed, negative, Fin}
 use Rattle.rounding.proofs.Value.{value-of}
-use Rattle.rounding.proofs.Rounded.{RoundOf, Rounded, Relative, Exact, round-near, round-relative, round-exact, round-sign}
+use Rattle.rounding.proofs.Rounded.{RoundOf, Rounded, round-near}
 
 -- m / e is A units and n / d is B
 cross : (m n e d l A B : ℕ) → m * l ≡ A * e → n * l ≡ B * d → m * d * l * B ≡ A * l * (n * e)

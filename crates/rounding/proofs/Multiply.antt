@@ -1,6 +1,6 @@
 -- The product: one rounding of the exact product, which is mag x * mag y / 2 ^ low units.
 use mathlib.Core.Path.{_≡_, refl, ap, _∙_}
-use Prim.Native.Nat.{ℕ, suc, _+_, _*_, _^_, _≤_, _<_}
+use Prim.Native.Nat.{ℕ, _+_, _*_, _^_, _≤_}
 use native.Mathlib.Nat.{mul-pos}
 use native.Mathlib.Omega.{arith}
 use mathlib.Core.Bool.{Bool, true, false}
@@ -12,7 +12,7 @@ use lib.Ieee.Scale.{finite}
 use Rattle.algebra.specs.Integer.{Within, _⊗_, _≈_}
 use Rattle.rounding.specs.Value.{mag, signed, negative, val, Fin}
 use Rattle.rounding.proofs.Value.{value-of}
-use Rattle.rounding.proofs.Rounded.{RoundOf, Rounded, Relative, Exact, recast, round-near, round-relative, round-exact, round-sign}
+use Rattle.rounding.proofs.Rounded.{RoundOf, Rounded, Relative, recast, round-near, round-relative, round-sign}
 
 -- m / e is A units and n / d is B
 pub both : (m n e d l A B : ℕ) → m * l ≡ A * e → n * l ≡ B * d → m * n * l * l ≡ A * B * (e * d)

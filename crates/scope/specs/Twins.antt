@@ -13,11 +13,15 @@ use Rattle.scope.specs.Packing.{Packing, refusedPacking, skylinePack}
 use Rattle.scope.specs.Container.{Contained, refusedContainer, contained}
 use Rattle.scope.specs.Layout.{Layout, layout, refusedLayout}
 
+-- what is answered of n records, unless there are too many
+abbrev pub unlessMany : {X : Type 0} → ℕ → X → X → X
+unlessMany n bad good = cond (tooMany n) bad good
+
 -- ---- `find_clusters`
 
 -- the plain clustering of circles that are n by count; a count above the cap is refused, and no circle looked at
 unfoldable pub countedGrouping : ℕ → List Circle → Grouping
-countedGrouping n cs = cond (tooMany n) (refusedGrouping 1) (plainGrouping cs)
+countedGrouping n cs = unlessMany n (refusedGrouping 1) (plainGrouping cs)
 
 -- of the first n circles of an array
 abbrev pub firstGrouping : ℕ → List Circle → Grouping
@@ -25,7 +29,7 @@ firstGrouping n cs = countedGrouping n (take n cs)
 
 -- ---- `skyline_pack`: the first n boxes of an array packed
 unfoldable pub firstPacking : ℕ → List Rectangle → Float → Packing
-firstPacking n rects padding = cond (tooMany n) (refusedPacking 1) (skylinePack (take n rects) padding)
+firstPacking n rects padding = unlessMany n (refusedPacking 1) (skylinePack (take n rects) padding)
 
 -- ---- the whole layout of the first n circles of an array, and the circles past them as they were
 
@@ -33,7 +37,7 @@ abbrev pub withOthers : ℕ → List Circle → Layout → Layout
 withOthers n cs l = record { result = l .result; circles = l .circles ++ drop n cs }
 
 unfoldable pub firstLayout : ℕ → List Circle → Float → List ℕ → List Float → Layout
-firstLayout n cs factor masks areas = cond (tooMany n) (refusedLayout 1 cs) (withOthers n cs (layout (take n cs) factor masks areas))
+firstLayout n cs factor masks areas = unlessMany n (refusedLayout 1 cs) (withOthers n cs (layout (take n cs) factor masks areas))
 
 -- ---- `normalize_layout_with_container`, likewise
 
@@ -41,4 +45,4 @@ abbrev pub withRest : ℕ → List Circle → Contained → Contained
 withRest n cs r = record { refusal = r .refusal; container = r .container; circles = r .circles ++ drop n cs }
 
 unfoldable pub firstContained : ℕ → List Circle → Rectangle → Contained
-firstContained n cs container = cond (tooMany n) (refusedContainer cs container 1) (withRest n cs (contained (take n cs) container))
+firstContained n cs container = unlessMany n (refusedContainer cs container 1) (withRest n cs (contained (take n cs) container))

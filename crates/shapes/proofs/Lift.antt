@@ -1,12 +1,10 @@
 -- The lift keeps whatever is not below the smallest normal number: every accepted radius, and NaN.
 use mathlib.Core.Path.{_≡_, refl}
-use mathlib.Core.Bool.{Bool, true, false}
+use mathlib.Core.Bool.{true, false}
 use lib.Ieee.{Float, nan, lt}
 use Rattle.rounding.specs.Extremes.{maximum}
-use Rattle.shapes.specs.declared.circle.Circle.{Circle}
-use Rattle.shapes.specs.Records.{pointAt}
 use Rattle.shapes.specs.Limits.{smallestNormal, radiusInRange}
-use Rattle.shapes.specs.Lift.{lift, liftedCircle, movedTo}
+use Rattle.shapes.specs.Lift.{lift}
 use Rattle.shapes.proofs.Limits.{accepted-not-below}
 
 pub lift-keeps : (r : Float) → lt r smallestNormal ≡ false → lift r ≡ r

@@ -1,13 +1,10 @@
 -- `bits_of` meets its contract.
-use Prim.Native.Nat.{ℕ, suc, _≤_, _<_, _-_, _+_}
-use native.Mathlib.Omega.{arith}
-use borrow.Author.Needs.{needs}
+use Prim.Native.Nat.{_-_}
 use mathlib.Core.Path.{_≡_, refl, sym, ap, _∙_}
-use mathlib.Core.Bool.{Bool, true, false, not, _&&_, _||_, cond}
-use lib.ListN.{length, getD, set}
+use mathlib.Core.Bool.{true, false, not}
 use mathlib.Core.Bool.{true≢false}
 use lib.Dec.{T}
-use lib.Ieee.{Float, nan, inf, fin, binary64, ofBits, toBits, eq, ne, isNan}
+use lib.Ieee.{Float, nan, inf, fin, ofBits, toBits, eq, ne, isNan}
 use lib.Ieee.Compare.{differs-from-itself}
 use Rattle.scope.specs.Print.{bitsOf}
 use Rattle.bits.proofs.bits_of.Statement.{statement}

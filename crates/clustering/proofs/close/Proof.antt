@@ -4,7 +4,6 @@ use native.Mathlib.Omega.{arith}
 use mathlib.Core.Bool.{Bool}
 use mathlib.Core.Logic.{⊎-elim}
 use Rattle.scope.specs.Closure.{Marks, at, passes}
-use Rattle.intake.specs.Limits.{maxCircles}
 use Rattle.clustering.specs.Table.{Shows}
 use Rattle.clustering.proofs.Table.{down, through, down-start, row-passed, row-skipped, passed, none-passed, all-passed}
 use Rattle.clustering.proofs.close.Statement.{statement}

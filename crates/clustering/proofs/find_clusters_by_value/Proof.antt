@@ -1,12 +1,12 @@
 -- `find_clusters_by_value` meets its contract: the first n circles come back out of the arrays that they were split into.
 use Prim.Native.Nat.{_≤_}
 use native.Mathlib.Omega.{arith}
-use mathlib.Core.Path.{_≡_, _∙_}
+use mathlib.Core.Path.{_∙_}
 use lib.ListN.{length, take}
 use lib.Seq.{length-take-le}
 use borrow.Author.Needs.{needs}
 use Rattle.scope.specs.Limits.{circleCap}
-use Rattle.intake.proofs.Counted.{few}
+use Rattle.laws.proofs.Counted.{few}
 use Rattle.clustering.proofs.PlainClusters.{split-grouping}
 use Rattle.clustering.proofs.find_clusters_by_value.Statement.{statement}
 use Rattle.clustering.proofs.find_clusters_by_value.Tie as tie

@@ -1,5 +1,5 @@
 -- `find_clusters_from_exclusive_regions` meets its contract: the refusal, or the clusters.
-use mathlib.Core.Path.{_≡_, sym, ap, _∙_}
+use mathlib.Core.Path.{sym, ap, _∙_}
 use mathlib.Core.List.{[], _∷_}
 use borrow.Author.Needs.{needs}
 use Rattle.scope.specs.Limits.{circleCap}

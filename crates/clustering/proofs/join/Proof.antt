@@ -2,7 +2,6 @@
 use Prim.Native.Nat.{ℕ, _-_, _≤_, _<_}
 use native.Mathlib.Omega.{arith}
 use mathlib.Core.Bool.{Bool}
-use borrow.Author.Needs.{needs}
 use Rattle.intake.specs.Limits.{maxCircles}
 use Rattle.clustering.specs.Table.{Shows, Row}
 use Rattle.clustering.proofs.Table.{along, along-start, along-joined, along-end}

@@ -3,7 +3,6 @@ use Prim.Native.Nat.{_-_, _+_, _≤_, _<_}
 use native.Mathlib.Omega.{arith}
 use mathlib.Core.Path.{_≡_}
 use mathlib.Core.Bool.{true}
-use borrow.Author.Needs.{needs}
 use Rattle.scope.specs.Runs.{bit}
 use Rattle.intake.specs.Limits.{maxCircles}
 use Rattle.clustering.proofs.Table.{RowSoFar, row-none, row-taken, row-past}

@@ -1,6 +1,5 @@
 -- `axis` meets its contract: the breadths, where the lines start, and the middle of each cell.
-use Prim.Native.Nat.{ℕ, _<_}
-use mathlib.Core.Path.{_≡_, _∙_}
+use mathlib.Core.Path.{_∙_}
 use borrow.Author.Needs.{needs}
 use Rattle.packing.proofs.Grid.{placed-at}
 use Rattle.packing.proofs.axis.Statement.{statement}

@@ -1,5 +1,5 @@
 -- `columns` meets its contract: the refusal, or the table's count.
-use mathlib.Core.Path.{_≡_, sym, ap, _∙_}
+use mathlib.Core.Path.{sym, ap, _∙_}
 use borrow.Author.Needs.{needs}
 use Rattle.scope.specs.Refusals.{columnsRefusal, given}
 use Rattle.intake.proofs.CauseWords.{number-says}

@@ -1,8 +1,7 @@
 -- `lines_of` meets its contract, box by box.
 use Prim.Native.Nat.{ℕ, _-_, _/_, _%_, _≤_, _<_}
 use native.Mathlib.Omega.{arith}
-use mathlib.Core.Path.{_≡_, refl, ap}
-use borrow.Author.Needs.{needs}
+use mathlib.Core.Path.{_≡_, ap}
 use lib.ListN.{length, length-set}
 use Rattle.scope.specs.Packing.{place}
 use Rattle.intake.specs.Columns.{at}

@@ -1,6 +1,4 @@
 -- `on_axes` meets its contract: areas, lines, and both axes in turn.
-use Prim.Native.Nat.{ℕ, _<_}
-use mathlib.Core.Path.{_≡_, _∙_}
 use native.Mathlib.Omega.{arith}
 use borrow.Author.Needs.{needs}
 use lib.ListN.{length}

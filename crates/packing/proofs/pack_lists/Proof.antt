@@ -1,5 +1,5 @@
 -- `pack_lists` meets its contract: refused and nothing written, or the boxes in the grid.
-use mathlib.Core.Path.{_≡_, refl, sym, _∙_}
+use mathlib.Core.Path.{sym, _∙_}
 use borrow.Author.Needs.{needs}
 use borrow.Author.Tests.{ne-eqb}
 use Rattle.packing.proofs.PackedBoxes.{accepted-few}

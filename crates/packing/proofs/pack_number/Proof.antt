@@ -1,7 +1,6 @@
 -- `pack_number` meets its contract: the words of its checks joined say what is refused of the boxes.
-use native.Mathlib.Omega.{arith}
 use native.Mathlib.Nat.{sub-zero}
-use mathlib.Core.Path.{_≡_, _∙_}
+use mathlib.Core.Path.{_∙_}
 use mathlib.Core.List.{[], _∷_}
 use borrow.Author.Needs.{needs}
 use Rattle.intake.proofs.CauseWords.{joined, number-says}

@@ -1,7 +1,7 @@
 -- `sides_of` meets its contract, box by box.
 use Prim.Native.Nat.{_-_, _≤_}
 use native.Mathlib.Omega.{arith}
-use mathlib.Core.Path.{_≡_, refl, ap}
+use mathlib.Core.Path.{_≡_, ap}
 use lib.ListN.{length, length-set}
 use lib.Ieee.{nan}
 use Rattle.shapes.specs.declared.rectangle.Rectangle.{Rectangle}

@@ -1,5 +1,5 @@
 -- `skyline_pack_by_value` meets its contract: only the sides of the first n boxes matter.
-use mathlib.Core.Path.{_≡_, sym, ap, _∙_}
+use mathlib.Core.Path.{_∙_}
 use borrow.Author.Needs.{needs}
 use Rattle.packing.proofs.PackedBoxes.{first-by-sides}
 use Rattle.packing.proofs.skyline_pack_by_value.Statement.{statement}

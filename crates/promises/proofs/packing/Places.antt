@@ -1,12 +1,12 @@
 -- Boxes of finite areas get distinct places below their count, and two places lie in different columns or in different rows.
 -- The order of the boxes is total, and what goes before a box goes before every box that it goes before.
-use Prim.Native.Nat.{ℕ, zero, suc, _+_, _-_, _*_, _/_, _%_, _≤_, _<_}
+use Prim.Native.Nat.{ℕ, _+_, _-_, _*_, _/_, _%_, _≤_, _<_}
 use native.Mathlib.Nat.{le-trans, mod-lt, div-add-mod', div-lt-iff-lt-mul, eq-or-lt-of-le, le-of-suc-le-suc}
 use native.Mathlib.Omega.{arith}
 use native.Mathlib.Decide.{decLt}
 use mathlib.Core.Path.{_≡_, sym, ap, _∙_}
 use mathlib.Core.Logic.{_⊎_, inl, inr, _↔_, Iff·trans}
-use mathlib.Core.Bool.{Bool, true, _&&_}
+use mathlib.Core.Bool.{true, _&&_}
 use mathlib.Core.List.{List}
 use lib.Dec.{T, ltb, ltb→lt, lt→ltb}
 use lib.ListN.{getD, length}
@@ -17,7 +17,7 @@ use Rattle.rounding.specs.Value.{Fin}
 use Rattle.rounding.proofs.Order.{lt-is, eq-is}
 use Rattle.shapes.specs.declared.rectangle.Rectangle.{Rectangle}
 use Rattle.scope.specs.Numbers.{nought}
-use Rattle.scope.specs.Runs.{tab, many}
+use Rattle.scope.specs.Runs.{tab}
 use Rattle.scope.specs.Packing.{before, place, places, rectangle, rectangleArea, rows}
 use Rattle.scope.specs.Promises.{units}
 use Rattle.laws.proofs.Cases.{or-iff, and-iff, sum-iff}

@@ -1,8 +1,8 @@
 -- The packing refuses no accepted layout: its clusters' sides and its padding are within the packing's ranges.
 use Prim.Native.Nat.{ℕ, _<_}
 use native.Mathlib.Omega.{arith}
-use mathlib.Core.Path.{_≡_, refl}
-use mathlib.Core.Bool.{Bool, true, false, not, _&&_}
+use mathlib.Core.Path.{_≡_}
+use mathlib.Core.Bool.{false, _&&_}
 use mathlib.Core.List.{List}
 use lib.Dec.{T}
 use lib.IntN.{pos}
@@ -16,7 +16,7 @@ use Rattle.shapes.specs.declared.circle.Circle.{Circle}
 use Rattle.shapes.specs.declared.rectangle.Rectangle.{Rectangle}
 use Rattle.scope.specs.Numbers.{nought}
 use Rattle.scope.specs.Limits.{circleCap, within, sideOk, paddingOk, factorOk}
-use Rattle.scope.specs.Links.{Region, regions, circle}
+use Rattle.scope.specs.Links.{regions, circle}
 use Rattle.scope.specs.Refusals.{badSide, badPadding, packRefusal, layoutRefusal}
 use Rattle.scope.specs.Groups.{Clusters, clusters}
 use Rattle.scope.specs.Tolerance.{tolerance}

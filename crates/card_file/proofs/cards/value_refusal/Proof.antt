@@ -1,5 +1,5 @@
 -- `value_refusal` meets its contract: the words of its checks joined say what is refused of a layout's values.
-use mathlib.Core.Path.{_≡_, sym, _∙_}
+use mathlib.Core.Path.{sym, _∙_}
 use mathlib.Core.List.{[], _∷_}
 use borrow.Author.Needs.{needs}
 use Rattle.intake.proofs.CauseWords.{joined, number-says}

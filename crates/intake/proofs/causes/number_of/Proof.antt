@@ -1,7 +1,6 @@
 -- `number_of` meets its contract: no cause that was passed holds.
 use Prim.Native.Nat.{_-_, _≤_}
 use native.Mathlib.Omega.{arith}
-use borrow.Author.Needs.{needs}
 use mathlib.Core.Path.{_≡_, refl, sym, _∙_}
 use lib.ListN.{drop}
 use Rattle.scope.specs.Runs.{bit}

@@ -1,6 +1,6 @@
 -- `of_circle_and_point` meets its contract.
 use borrow.Author.Needs.{needs}
-use mathlib.Core.Path.{_≡_, ap, _∙_}
+use mathlib.Core.Path.{_∙_}
 use mathlib.Core.List.{[], _∷_}
 use Rattle.scope.specs.Refusals.{badCentre, badPoint}
 use Rattle.intake.proofs.CauseWords.{one-cause, either-cause, joined}

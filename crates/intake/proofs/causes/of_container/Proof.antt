@@ -1,6 +1,6 @@
 -- `of_container` meets its contract.
 use borrow.Author.Needs.{needs}
-use mathlib.Core.Path.{_≡_, ap, _∙_}
+use mathlib.Core.Path.{_∙_}
 use mathlib.Core.List.{[], _∷_}
 use Rattle.intake.proofs.CauseWords.{one-cause, joined}
 use Rattle.intake.proofs.causes.of_container.Statement.{statement}

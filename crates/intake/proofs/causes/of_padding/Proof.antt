@@ -1,6 +1,6 @@
 -- `of_padding` meets its contract.
 use borrow.Author.Needs.{needs}
-use mathlib.Core.Path.{_≡_, ap, _∙_}
+use mathlib.Core.Path.{_∙_}
 use Rattle.intake.proofs.CauseWords.{one-cause}
 use Rattle.intake.proofs.causes.of_padding.Statement.{statement}
 use Rattle.intake.proofs.causes.of_padding.Tie as tie

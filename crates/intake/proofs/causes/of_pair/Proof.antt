@@ -1,6 +1,6 @@
 -- `of_pair` meets its contract.
 use borrow.Author.Needs.{needs}
-use mathlib.Core.Path.{_≡_, ap, _∙_}
+use mathlib.Core.Path.{_∙_}
 use mathlib.Core.List.{[], _∷_}
 use Rattle.scope.specs.Refusals.{badCentre, badRadius}
 use Rattle.intake.proofs.CauseWords.{one-cause, either-cause, joined}

@@ -1,6 +1,6 @@
 -- `of_points` meets its contract.
 use borrow.Author.Needs.{needs}
-use mathlib.Core.Path.{_≡_, ap, _∙_}
+use mathlib.Core.Path.{_∙_}
 use Rattle.scope.specs.Refusals.{badPoint}
 use Rattle.intake.proofs.CauseWords.{one-cause, either-cause}
 use Rattle.intake.proofs.causes.of_points.Statement.{statement}

@@ -1,6 +1,6 @@
 -- `of_radii` meets its contract: the ends' patterns are those of the range.
 use borrow.Author.Needs.{needs}
-use mathlib.Core.Path.{_≡_, _∙_}
+use mathlib.Core.Path.{_∙_}
 use lib.Ieee.{ofBits}
 use Rattle.shapes.specs.Limits.{smallestRadius, largestRadius}
 use Rattle.scope.specs.Limits.{radiusOk}

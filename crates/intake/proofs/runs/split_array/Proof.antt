@@ -1,8 +1,8 @@
 -- `split_array` meets its contract: refused and nothing written, or each column over its array.
-use mathlib.Core.Path.{_≡_, sym, _∙_}
+use mathlib.Core.Path.{sym, _∙_}
 use borrow.Author.Needs.{needs}
 use Rattle.scope.specs.Limits.{circleCap}
-use Rattle.intake.proofs.Counted.{few}
+use Rattle.laws.proofs.Counted.{few}
 use Rattle.intake.proofs.runs.split_array.Statement.{statement}
 use Rattle.intake.proofs.runs.split_array.Tie as tie
 

@@ -1,11 +1,11 @@
 -- `recentred` meets its contract, circle by circle.
 use Prim.Native.Nat.{_-_, _≤_}
 use native.Mathlib.Omega.{arith}
-use mathlib.Core.Path.{_≡_, refl, _∙_}
-use lib.ListN.{length, length-set}
+use mathlib.Core.Path.{_≡_, _∙_}
+use lib.ListN.{length}
 use Rattle.scope.specs.Links.{nowhere}
 use Rattle.intake.specs.Limits.{maxCircles}
-use Rattle.layout.proofs.Recentred.{reached, reached-none, reached-length, reached-next, reached-all}
+use Rattle.layout.proofs.Recentred.{reached, reached-none, reached-next, reached-all}
 use Rattle.layout.proofs.lent.recentred.Statement.{statement}
 use Rattle.layout.proofs.lent.recentred.Tie as tie
 

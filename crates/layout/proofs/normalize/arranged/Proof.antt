@@ -1,6 +1,6 @@
 -- `arranged` meets its contract: each step has its equation, and together they are the arrangement.
 use native.Mathlib.Omega.{arith}
-use mathlib.Core.Path.{_≡_, _∙_}
+use mathlib.Core.Path.{_∙_}
 use borrow.Author.Needs.{needs}
 use Rattle.clustering.specs.Answers.{grouped}
 use Rattle.layout.proofs.WholeSteps.{accepted-lifted, accepted-paired, room-for-numbers, few-clusters, numbers-inside, length-numbers, clusters-packable, whole-result, whole-circles}

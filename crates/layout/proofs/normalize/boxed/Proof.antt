@@ -1,5 +1,5 @@
 -- `boxed` meets its contract: the lists are those of the boxes, and so is the padding.
-use mathlib.Core.Path.{_≡_, _∙_}
+use mathlib.Core.Path.{_∙_}
 use borrow.Author.Needs.{needs}
 use Rattle.layout.proofs.ClusterBoxes.{padding-shown}
 use Rattle.layout.proofs.normalize.boxed.Statement.{statement}

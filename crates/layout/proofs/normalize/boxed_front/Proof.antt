@@ -1,6 +1,5 @@
 -- `boxed_front` meets its contract: the boxes stand in the front of the lists.
-use native.Mathlib.Omega.{arith}
-use mathlib.Core.Path.{_≡_, sym, _∙_}
+use mathlib.Core.Path.{sym, _∙_}
 use borrow.Author.Needs.{needs}
 use Rattle.layout.proofs.PackedClusters.{part-length, boxes-in-front}
 use Rattle.layout.proofs.normalize.boxed_front.Statement.{statement}

@@ -1,7 +1,7 @@
 -- `in_front` meets its contract: the arrangement of the first n circles.
 use native.Mathlib.Nat.{sub-zero}
 use native.Mathlib.Omega.{arith}
-use mathlib.Core.Path.{_≡_, sym, _∙_}
+use mathlib.Core.Path.{sym, _∙_}
 use borrow.Author.Needs.{needs}
 use Rattle.layout.proofs.PackedClusters.{part-length}
 use Rattle.layout.proofs.FrontLayouts.{front-doubles, laid-accepted}

@@ -1,6 +1,5 @@
 -- `in_grid` meets its contract: the packing accepts the boxes, and the circles go with them.
 use native.Mathlib.Omega.{arith}
-use mathlib.Core.Path.{_≡_}
 use borrow.Author.Needs.{needs}
 use Rattle.promises.proofs.packing.PackedCircles.{boxes-length}
 use Rattle.layout.proofs.PackedClusters.{packed-by}

@@ -1,5 +1,5 @@
 -- `laid` meets its contract: refused and nothing written, or the layout of the first n circles.
-use mathlib.Core.Path.{_≡_, sym, _∙_}
+use mathlib.Core.Path.{sym, _∙_}
 use mathlib.Core.List.{[], _∷_}
 use borrow.Author.Needs.{needs}
 use Rattle.intake.proofs.CauseWords.{joined, number-says}

@@ -1,6 +1,6 @@
 -- `placed` meets its contract: gauge, packing and centring in turn.
 use native.Mathlib.Omega.{arith}
-use mathlib.Core.Path.{_≡_, ap, _∙_}
+use mathlib.Core.Path.{ap, _∙_}
 use borrow.Author.Needs.{needs}
 use Rattle.scope.specs.Centring.{centredLayout}
 use Rattle.layout.proofs.normalize.placed.Statement.{statement}

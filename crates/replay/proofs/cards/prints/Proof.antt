@@ -1,10 +1,6 @@
 -- `prints` keeps to its bounds and ends.
-use Prim.Native.Nat.{ℕ, suc, _≤_, _<_, _-_, _+_}
+use Prim.Native.Nat.{_≤_, _-_}
 use native.Mathlib.Omega.{arith}
-use borrow.Author.Needs.{needs}
-use mathlib.Core.Path.{_≡_, refl, sym, ap, _∙_}
-use mathlib.Core.Bool.{Bool, true, false, not, _&&_, _||_, cond}
-use lib.ListN.{length, getD, set}
 use Rattle.replay.proofs.cards.prints.Statement.{statement}
 use Rattle.replay.proofs.cards.prints.Tie as tie
 

@@ -7,8 +7,7 @@ use mathlib.Core.List.{List, _∷_}
 use borrow.Author.Tests.{ltb-false}
 use Rattle.scope.specs.Limits.{circleCap}
 use Rattle.scope.specs.Refusals.{causes, Checks, causeHolds, first, refusal, tooMany}
-use Rattle.intake.specs.Limits.{maxCircles}
-use Rattle.intake.specs.Counted.{unlessMany}
+use Rattle.scope.specs.Twins.{unlessMany}
 
 pub few : (n : ℕ) → tooMany n ≡ false → n ≤ circleCap
 unfolding tooMany
@@ -27,8 +26,7 @@ chosen f true x y = refl
 chosen f false x y = refl
 
 -- a number 0 is not that of too many
-pub none-counted : (n k : ℕ) → unlessMany n 1 k ≡ 0 → (tooMany n ≡ false) × (n ≤ maxCircles) × (k ≡ 0)
-unfolding circleCap
+pub none-counted : (n k : ℕ) → unlessMany n 1 k ≡ 0 → (tooMany n ≡ false) × (n ≤ circleCap) × (k ≡ 0)
 none-counted n k z = by-many n (λ h. let one : _≡_ {A = ℕ} 1 0 = rw h at z in absurd (omega arith)) (λ h. (h, few n h, rw h at z))
 
 -- what is answered of as many records as a run has, unless there are too many, is answered of the run
