@@ -4,14 +4,15 @@ use Prim.Native.Nat.{ℕ, _≤_}
 use native.Mathlib.Nat.{min-le-left}
 use native.Mathlib.Omega.{arith}
 use mathlib.Core.Path.{_≡_, refl, ap, _∙_}
-use mathlib.Core.Bool.{cond}
+use mathlib.Core.Bool.{Bool, true, false, cond}
 use mathlib.Core.List.{List, _∷_}
 use lib.ListN.{take, length, length-take, take-append-drop}
 use lib.Ieee.{Float}
 use Rattle.shapes.specs.declared.circle.Circle.{Circle}
 use Rattle.shapes.specs.declared.rectangle.Rectangle.{Rectangle}
 use Rattle.scope.specs.Numbers.{golden}
-use Rattle.scope.specs.Refusals.{Checks, frontToBack, tooMany}
+use Rattle.scope.specs.Limits.{circleCap}
+use Rattle.scope.specs.Refusals.{causes, Checks, causeHolds, first, refusal, frontToBack, tooMany}
 use Rattle.scope.specs.Links.{regions}
 use Rattle.scope.specs.Groups.{Grouping, plainClusters, refusedGrouping, acceptedGrouping}
 use Rattle.scope.specs.Packing.{Packing, packed, refusedPacking, acceptedPacking}
@@ -27,14 +28,32 @@ use Rattle.laws.proofs.FrontToBack.{front-to-back-reads}
 use Rattle.laws.proofs.EntryPoints.{circles-reads, pack-reads, container-reads, layout-reads}
 use Rattle.laws.proofs.AfterRefusal.{plain-grouping-answers, packing-answers, container-answers, layout-answers}
 
+-- ---- a count before everything else
+
+pub many-at-once : (cs : Checks) → refusal ((1, true) ∷ cs) ≡ 1
+unfolding refusal first causeHolds causes
+many-at-once cs = refl
+
+pub count-accepted : (n k : ℕ) → cond (tooMany n) 1 k ≡ 0 → (n ≤ circleCap) × (k ≡ 0)
+count-accepted n k z = elim (tested (tooMany n)) [
+  | yes h ↦ let none = rw (is-true (tooMany n) h) at z in absurd (omega arith)
+  | no h ↦ (not-too-many-iff n .0 h, rw (is-false (tooMany n) h) at z)
+]
+
 module _ {A : Type 0} {numberOf : A → ℕ} {refuse : ℕ → A} where
-  -- the call on the first n records, which are m, and a count that is too large before it
+  -- a count that is too large before a call
+  pub unless-many : {number : ℕ} {answer value : A} (many : Bool) → ((k : ℕ) → numberOf (refuse k) ≡ k) → Answers numberOf number answer refuse value
+      → Answers numberOf (cond many 1 number) (cond many (refuse 1) answer) refuse value
+  unless-many true named inner = record { says = named 1; at-refusal = λ z. refl; on-acceptance = λ z. absurd (omega arith) }
+  unless-many false named inner = inner
+
+  -- and before the call on the first n records, which are m
   counted : {answer value : A} (n m : ℕ) (cs : Checks) → m ≤ n → ((k : ℕ) → numberOf (refuse k) ≡ k)
       → Answers numberOf (frontToBack ((1, tooMany m) ∷ cs)) answer refuse value
       → Answers numberOf (frontToBack ((1, tooMany n) ∷ cs)) (cond (tooMany n) (refuse 1) answer) refuse value
   unfolding frontToBack
   counted n m cs few named inner = elim (tested (tooMany n)) [
-    | yes h ↦ rw (is-true (tooMany n) h) (record { says = named 1; at-refusal = λ z. refl; on-acceptance = λ z. absurd (omega arith) })
+    | yes h ↦ rw (is-true (tooMany n) h) (unless-many true named inner)
     | no h ↦
         let room = not-too-many-iff n .0 h in
         rw (is-false (tooMany n) h) (rw (is-false (tooMany m) (not-too-many-iff m .1 (omega arith))) at inner)

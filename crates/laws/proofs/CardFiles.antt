@@ -4,7 +4,6 @@ use Prim.Native.Nat.{ℕ, zero, suc, _+_, _≤_, _<_}
 use native.Mathlib.Omega.{arith}
 use mathlib.Core.Path.{_≡_, refl, sym, ap, _∙_, subst}
 use mathlib.Core.Logic.{_↔_, _⊎_, inl, inr, ⊎-elim, _≢_}
-use mathlib.Core.Bool.{not}
 use mathlib.Core.List.{List, [], _∷_}
 use lib.Dec.{eqb}
 use lib.ListN.{length, drop, length-drop}
@@ -15,6 +14,25 @@ use Rattle.laws.specs.CardFiles.{afterField, Reaches, after-first, after
 use Rattle.laws.proofs.Cases.{not-not-iff, not-ltb-iff, eqb-iff, tested}
 use Rattle.laws.proofs.EntryPoints.{first-field-reads, next-field-reads}
 use Rattle.laws.proofs.AfterRefusal.{answer-answers}
+
+-- ---- answers in general: if each of the two says which answer it is, and one of them always holds, then each holds exactly where the answer is its own
+
+abbrev Either : {A : Type 0} → (A → Type 0) → (ℕ → Type 0) → Type 0
+Either {A} Given Refused = ((a : A) × Given a) ⊎ ((k : ℕ) × ((k ≢ 0) × Refused k))
+
+abbrev Decided : {A : Type 0} → Answer A → (A → Type 0) → (ℕ → Type 0) → Type 0
+Decided {A} r Given Refused = ((k : ℕ) → k ≢ 0 → (r ≡ refused k) ↔ Refused k) × ((a : A) → (r ≡ given a) ↔ Given a)
+
+decided : {A : Type 0} {r : Answer A} {Given : A → Type 0} {Refused : ℕ → Type 0} → ((a : A) → Given a → r ≡ given a)
+    → ((k : ℕ) → k ≢ 0 → Refused k → r ≡ refused k) → Either Given Refused → Decided r Given Refused
+decided {A} {r} {Given} {Refused} accepts refuses (inl (a, g)) = (
+  λ k nz. (λ e. absurd (nz (sym (ap refusalOf e) ∙ ap refusalOf (accepts a g))), refuses k nz),
+  λ b. (λ e. let both = sym (accepts a g) ∙ e in let is : a ≡ b = cc in subst Given is g, accepts b),
+)
+decided {A} {r} {Given} {Refused} accepts refuses (inr (j, (nj, f))) = (
+  λ k nz. (λ e. subst Refused (sym (ap refusalOf (refuses j nj f)) ∙ ap refusalOf e) f, refuses k nz),
+  λ b. (λ e. absurd (nj (sym (ap refusalOf (refuses j nj f)) ∙ ap refusalOf e)), accepts b),
+)
 
 -- ---- one field
 
@@ -78,7 +96,7 @@ module _ (file : List ℕ) where
   refuses k nz (at-next {card} {rest} r some e) = stands r ∙ next-field card rest some ∙ stops (nextRefusal card rest) _ (λ z. nz (sym e ∙ z)) ∙ ap refused e
 
   abbrev Outcome : Type 0
-  Outcome = ((card : Card) × Reaches file card []) ⊎ ((k : ℕ) × ((k ≢ 0) × FileRefused file k))
+  Outcome = Either (λ card. Reaches file card []) (FileRefused file)
 
   -- the end, a refusal, or a field more and less left
   step : (card : Card) (rest : List ℕ) → Reaches file card rest
@@ -104,23 +122,14 @@ module _ (file : List ℕ) where
 
   -- ---- the file
 
+  file-both-ways : Decided (readFile file) (λ card. Reaches file card []) (FileRefused file)
+  file-both-ways = decided (λ card. reads-all) refuses outcome
+
   pub file-refused-iff : (k : ℕ) → k ≢ 0 → (readFile file ≡ refused k) ↔ FileRefused file k
-  file-refused-iff k nz = (
-    λ e. ⊎-elim (λ g. absurd (nz (sym (ap refusalOf e) ∙ ap refusalOf (reads-all (g .1))))) (λ f. same e (f .1 .0) (f .1 .1)) outcome,
-    refuses k nz,
-  )
-    where
-      same : {j : ℕ} → readFile file ≡ refused k → j ≢ 0 → FileRefused file j → FileRefused file k
-      same {j} e nj f = subst (FileRefused file) (sym (ap refusalOf (refuses j nj f)) ∙ ap refusalOf e) f
+  file-refused-iff = file-both-ways .0
 
   pub file-given-iff : (card : Card) → (readFile file ≡ given card) ↔ Reaches file card []
-  file-given-iff card = (
-    λ e. ⊎-elim (λ g. same e (g .1)) (λ f. absurd (f .1 .0 (sym (ap refusalOf (refuses (f .0) (f .1 .0) (f .1 .1))) ∙ ap refusalOf e))) outcome,
-    reads-all,
-  )
-    where
-      same : {found : Card} → readFile file ≡ given card → Reaches file found [] → Reaches file card []
-      same {found} e r = let both = sym (reads-all r) ∙ e in let is : found ≡ card = cc in subst (λ c. Reaches file c []) is r
+  file-given-iff = file-both-ways .1
 
   -- ---- the card: then values
 
@@ -128,38 +137,25 @@ module _ (file : List ℕ) where
   unfolding readCard valued
   values-after r = ap valued (reads-all r)
 
-  stays-refused : (k : ℕ) → k ≢ 0 → FileRefused file k → readCard file ≡ refused k
-  unfolding readCard valued
-  stays-refused k nz f = ap valued (refuses k nz f)
+  card-accepts : (card : Card) → Reaches file card [] × (valuesRefusal card ≡ 0) → readCard file ≡ given card
+  card-accepts card h = values-after (h .0) ∙ answer-answers (valuesRefusal card) card .on-acceptance (h .1)
 
-  number-after : {card : Card} (r : Reaches file card []) → refusalOf (readCard file) ≡ valuesRefusal card
-  number-after {card} r = ap refusalOf (values-after r) ∙ answer-answers (valuesRefusal card) card .says
+  card-refuses : (k : ℕ) → k ≢ 0 → CardRefused file k → readCard file ≡ refused k
+  unfolding readCard valued
+  card-refuses k nz (by-field f) = ap valued (refuses k nz f)
+  card-refuses k nz (by-values {card} r e) = values-after r ∙ answer-answers (valuesRefusal card) card .at-refusal (λ z. nz (sym e ∙ z)) ∙ ap refused e
+
+  by-values-of : (card : Card) → Reaches file card [] → Either (λ (c : Card). Reaches file c [] × (valuesRefusal c ≡ 0)) (CardRefused file)
+  by-values-of card r = elim (tested (eqb (valuesRefusal card) 0)) [
+    | yes h ↦ inl (card, (r, eqb-iff (valuesRefusal card) 0 .0 h))
+    | no h ↦ inr (valuesRefusal card, ((λ z. h (eqb-iff (valuesRefusal card) 0 .1 z)), by-values r refl))
+  ]
+
+  card-both-ways : Decided (readCard file) (λ card. Reaches file card [] × (valuesRefusal card ≡ 0)) (CardRefused file)
+  card-both-ways = decided card-accepts card-refuses (⊎-elim (λ g. by-values-of (g .0) (g .1)) (λ f. inr (f .0, (f .1 .0, by-field (f .1 .1)))) outcome)
 
   pub card-refused-iff : (k : ℕ) → k ≢ 0 → (readCard file ≡ refused k) ↔ CardRefused file k
-  card-refused-iff k nz = (
-    λ e. ⊎-elim (λ g. by-values (g .1) (sym (number-after (g .1)) ∙ ap refusalOf e)) (λ f. by-field (same e (f .1 .0) (f .1 .1))) outcome,
-    back,
-  )
-    where
-      same : {j : ℕ} → readCard file ≡ refused k → j ≢ 0 → FileRefused file j → FileRefused file k
-      same {j} e nj f = subst (FileRefused file) (sym (ap refusalOf (stays-refused j nj f)) ∙ ap refusalOf e) f
-
-      back : CardRefused file k → readCard file ≡ refused k
-      back (by-field f) = stays-refused k nz f
-      back (by-values {card} r e) = values-after r ∙ answer-answers (valuesRefusal card) card .at-refusal (λ z. nz (sym e ∙ z)) ∙ ap refused e
+  card-refused-iff = card-both-ways .0
 
   pub card-given-iff : (card : Card) → (readCard file ≡ given card) ↔ (Reaches file card [] × (valuesRefusal card ≡ 0))
-  card-given-iff card = (
-    λ e. ⊎-elim (λ g. same e (g .1)) (λ f. absurd (f .1 .0 (sym (ap refusalOf (stays-refused (f .0) (f .1 .0) (f .1 .1))) ∙ ap refusalOf e))) outcome,
-    λ h. accepted (h .0) (h .1),
-  )
-    where
-      accepted : {found : Card} → Reaches file found [] → valuesRefusal found ≡ 0 → readCard file ≡ given found
-      accepted {found} r z = values-after r ∙ answer-answers (valuesRefusal found) found .on-acceptance z
-
-      same : {found : Card} → readCard file ≡ given card → Reaches file found [] → Reaches file card [] × (valuesRefusal card ≡ 0)
-      same {found} e r =
-          let z = sym (number-after r) ∙ ap refusalOf e in
-          let both = sym (accepted r z) ∙ e in
-          let is : found ≡ card = cc in
-          subst (λ c. Reaches file c [] × (valuesRefusal c ≡ 0)) is (r, z)
+  card-given-iff = card-both-ways .1

@@ -2,9 +2,9 @@
 use Prim.Native.Nat.{ℕ}
 use mathlib.Core.Path.{_≡_}
 use mathlib.Core.Logic.{_↔_, _⊎_, _≢_}
-use mathlib.Core.List.{[], _∷_}
+use mathlib.Core.List.{List, [], _∷_}
 use lib.Dec.{T}
-use Rattle.scope.specs.Refusals.{Checks, frontToBack}
+use Rattle.scope.specs.Refusals.{Checks, causeHolds, frontToBack}
 
 -- k comes back: a check with the number k has a cause that holds, and none before it has
 abbrev pub ComesBack : Checks → ℕ → Type 0
@@ -15,6 +15,11 @@ ComesBack (c ∷ cs) k = ((c .0 ≡ k) × T (c .1)) ⊎ ((¬ T (c .1)) × ComesB
 abbrev pub NoneHolds : Checks → Type 0
 NoneHolds [] = Unit {0}
 NoneHolds (c ∷ cs) = (¬ T (c .1)) × NoneHolds cs
+
+-- numbers in this order, each with whether a check of it has a cause that holds
+abbrev pub byTable : Checks → List ℕ → Checks
+byTable cs [] = []
+byTable cs (k ∷ ks) = (k, causeHolds cs k) ∷ byTable cs ks
 
 -- The number that a call gives back is that of the first check whose cause holds. A number k other than 0 comes back exactly if its check is that first one,
 -- and 0, which accepts, exactly if there is none.
