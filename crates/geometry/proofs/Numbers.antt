@@ -1,5 +1,5 @@
 -- The size of a number, in the code and in scope: by its sign.
-use Prim.Native.Nat.{ℕ, zero, suc, _+_, _*_}
+use Prim.Native.Nat.{zero, suc, _+_, _*_}
 use native.Mathlib.Omega.{arith}
 use native.Mathlib.Nat.{mul-pos}
 use mathlib.Core.Path.{_≡_, refl, sym, ap, _∙_}

@@ -78,22 +78,11 @@ number-says w cs e = first-same (bit w) (causeHolds cs) e causes
 
 -- ---- the order in which the checks stand
 
--- two checks before the two in front of them
-passed : (a b c d e : Bool) → a || (b || (c || (d || e))) ≡ c || (d || (a || (b || e)))
-passed true b true d e = refl
-passed true b false true e = refl
-passed true b false false e = refl
-passed false true true d e = refl
-passed false true false true e = refl
-passed false true false false e = refl
-passed false false c d e = refl
-
 -- what the words of circles, regions and a factor say when they are joined, in document 01's order
 pub layout-checks : (a b c d e f g : Bool)
     → refusal ((1, a) ∷ (3, b) ∷ (4, c) ∷ (13, d) ∷ (2, e) ∷ (5, f) ∷ (6, g) ∷ []) ≡ refusal ((1, a) ∷ (13, d) ∷ (2, e) ∷ (3, b) ∷ (4, c) ∷ (5, f) ∷ (6, g) ∷ [])
-unfolding refusal causeHolds
-layout-checks a b c d e f g =
-    first-same _ _ (λ k. ap (λ (r : Bool). (eqb 1 k && a) || r) (passed (eqb 3 k && b) (eqb 4 k && c) (eqb 13 k && d) (eqb 2 k && e) ((eqb 5 k && f) || ((eqb 6 k && g) || false)))) causes
+unfolding refusal first causeHolds causes
+layout-checks a b c d e f g = refl
 
 -- ---- the search for it, cause by cause
 small : ℕ → ℕ → Bool

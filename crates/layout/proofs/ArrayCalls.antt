@@ -13,7 +13,7 @@ use Rattle.scope.specs.Limits.{circleCap}
 use Rattle.scope.specs.Links.{circle, nowhere, regions}
 use Rattle.scope.specs.Refusals.{tooMany}
 use Rattle.scope.specs.Runs.{tab}
-use Rattle.scope.specs.Container.{Contained, contained}
+use Rattle.scope.specs.Container.{Contained}
 use Rattle.scope.specs.Layout.{Layout as Whole, Result as Outcome, layout, refusedLayout}
 use Rattle.scope.specs.Twins.{firstLayout, firstContained}
 use Rattle.scope.specs.Promises.{Promises}
@@ -23,7 +23,7 @@ use Rattle.intake.specs.Limits.{maxCircles}
 use Rattle.shapes.specs.Records.{circleOf}
 use Rattle.intake.specs.Columns.{at, xsOf, ysOf, radiiOf, overwritten}
 use Rattle.intake.proofs.Checking.{few}
-use Rattle.layout.specs.Answers.{resultOf, placedOf}
+use Rattle.layout.specs.Answers.{resultOf}
 use Rattle.layout.specs.Contained.{frontContained, SettledAt, Settles}
 use Rattle.layout.specs.Laid.{frontLayout, Laid, Lays}
 use Rattle.layout.specs.Recentred.{recentred, writtenOf}

@@ -18,13 +18,13 @@ use Rattle.scope.specs.Container.{settled}
 use Rattle.laws.proofs.Cases.{is-false, not-not-iff}
 use Rattle.laws.proofs.Accepted.{not-too-many-iff}
 use Rattle.laws.proofs.AfterRefusal.{container-answers}
+use Rattle.laws.proofs.ByValue.{many-at-once, count-accepted}
 use Rattle.laws.proofs.EntryPoints.{container-reads}
 use Rattle.laws.proofs.Runs.{any-at}
 use Rattle.scope.specs.Limits.{radiusOk}
 use Rattle.intake.specs.Limits.{maxCircles}
 use Rattle.intake.specs.Columns.{circlesOf, Lifted}
 use Rattle.intake.specs.CauseWords.{front}
-use Rattle.intake.proofs.Checking.{few}
 use Rattle.intake.proofs.Columns.{length-shown}
 use Rattle.layout.specs.Answers.{placedOf}
 use Rattle.layout.specs.Settling.{placed}
@@ -36,10 +36,6 @@ use Rattle.layout.proofs.FrontLayouts.{few-in-front}
 module _ (n : ℕ) (xs ys rs : List Float) (container : Rectangle) where
   abbrev cs : List Circle
   cs = front n xs ys rs
-
-  at-once : (c r p s : Bool) → refusal ((1, true) ∷ (3, c) ∷ (4, r) ∷ (3, p) ∷ (7, s) ∷ []) ≡ 1
-  unfolding refusal first causeHolds causes
-  at-once c r p s = refl
 
   -- one number for a circle's centre and the container's
   in-order : (c r p s : Bool) → refusal ((1, false) ∷ (3, c) ∷ (4, r) ∷ (3, p) ∷ (7, s) ∷ []) ≡ refusal ((1, false) ∷ (3, c || p) ∷ (4, r) ∷ (7, s) ∷ [])
@@ -53,16 +49,12 @@ module _ (n : ℕ) (xs ys rs : List Float) (container : Rectangle) where
     where
       by-test : (b : Bool) → tooMany n ≡ b
           → refusal ((1, b) ∷ (3, any badCentre cs) ∷ (4, any badRadius cs) ∷ (3, badPoint (container .center)) ∷ (7, badSide container) ∷ []) ≡ cond b 1 (containerRefusal cs container)
-      by-test true e = at-once (any badCentre cs) (any badRadius cs) (badPoint (container .center)) (badSide container)
+      by-test true e = many-at-once _
       by-test false e = in-order (any badCentre cs) (any badRadius cs) (badPoint (container .center)) (badSide container) ∙ rw (few-in-front n xs ys rs e)
-
-  both : (b : Bool) → tooMany n ≡ b → _≡_ {A = ℕ} (cond b 1 (containerRefusal cs container)) 0 → (tooMany n ≡ false) × (containerRefusal cs container ≡ 0)
-  both true e z = absurd (omega arith)
-  both false e z = (e, z)
 
   pub number-none : containedNumber n xs ys rs container ≡ 0 → (n ≤ maxCircles) × (containerRefusal cs container ≡ 0)
   unfolding containedNumber circleCap
-  number-none z = let b = both (tooMany n) refl z in (few n (b .0), b .1)
+  number-none z = count-accepted n _ z
 
   -- ---- a refusal
   pub settled-refused : (number : ℕ) → number ≡ containedNumber n xs ys rs container → number ≢ 0 → SettledAt xs ys rs n container (record { refusal = number; container = container }) xs ys

@@ -1,6 +1,5 @@
 -- The layout of circles whose numbers stand in the front of three lists: its number, what is answered after a refusal, and after an acceptance.
-use Prim.Native.Nat.{ℕ, zero, suc, _-_, _≤_, _<_, min}
-use native.Mathlib.Nat.{sub-zero}
+use Prim.Native.Nat.{ℕ, _-_, _≤_, _<_, min}
 use native.Mathlib.Omega.{arith}
 use mathlib.Core.Path.{_≡_, refl, sym, ap, _∙_, subst}
 use mathlib.Core.Logic.{_≢_}
@@ -15,18 +14,20 @@ use Rattle.scope.specs.Numbers.{golden}
 use Rattle.scope.specs.Runs.{any}
 use Rattle.scope.specs.Limits.{circleCap}
 use Rattle.scope.specs.Links.{regions}
-use Rattle.scope.specs.Refusals.{causes, causeHolds, first, refusal, tooMany, unequal, tooManyRegions, rising, badCentre, badRadius, badFactor, layoutRefusal}
+use Rattle.scope.specs.Refusals.{refusal, tooMany, unequal, tooManyRegions, rising, badCentre, badRadius, badFactor, layoutRefusal}
 use Rattle.scope.specs.Layout.{Result as Outcome, Layout, layout, arranged, refusedLayout}
 use Rattle.scope.specs.Promises.{Promises}
 use Rattle.promises.specs.Demand3.{bound, AreDoubles, Demand3}
 use Rattle.laws.proofs.Cases.{is-false}
 use Rattle.laws.proofs.Accepted.{not-too-many-iff}
 use Rattle.laws.proofs.AfterRefusal.{layout-answers}
+use Rattle.laws.proofs.ByValue.{many-at-once, count-accepted}
 use Rattle.promises.proofs.whole.Demand3.{layout-promises}
 use Rattle.intake.specs.Limits.{maxCircles}
 use Rattle.intake.specs.Columns.{at, circlesOf}
 use Rattle.intake.specs.CauseWords.{front}
 use Rattle.intake.proofs.Checking.{few}
+use Rattle.intake.proofs.CauseWords.{layout-checks}
 use Rattle.intake.proofs.Columns.{length-shown, shown-at}
 use Rattle.layout.specs.Answers.{resultOf}
 use Rattle.layout.specs.Laid.{frontLayout, frontNumber, Laid}
@@ -64,15 +65,6 @@ module _ (n : ℕ) (xs ys rs : List Float) (factor : Float) (masks : List ℕ) (
   abbrev cs : List Circle
   cs = front n xs ys rs
 
-  at-once : (c r u m s f : Bool) → refusal ((1, true) ∷ (3, c) ∷ (4, r) ∷ (13, u) ∷ (2, m) ∷ (5, s) ∷ (6, f) ∷ []) ≡ 1
-  unfolding refusal first causeHolds causes
-  at-once c r u m s f = refl
-
-  -- the order of a call's checks does not matter: that of the causes does
-  in-order : (b c r u m s f : Bool) → refusal ((1, b) ∷ (3, c) ∷ (4, r) ∷ (13, u) ∷ (2, m) ∷ (5, s) ∷ (6, f) ∷ []) ≡ refusal ((1, b) ∷ (13, u) ∷ (2, m) ∷ (3, c) ∷ (4, r) ∷ (5, s) ∷ (6, f) ∷ [])
-  unfolding refusal first causeHolds causes
-  in-order b c r u m s f = refl
-
   pub layout-number :
       refusal ((1, tooMany n) ∷ (3, any badCentre cs) ∷ (4, any badRadius cs) ∷ (13, unequal masks areas) ∷ (2, tooManyRegions (length masks)) ∷ (5, not (rising masks)) ∷ (6, badFactor factor) ∷ [])
       ≡ frontNumber n xs ys rs factor masks areas
@@ -82,18 +74,14 @@ module _ (n : ℕ) (xs ys rs : List Float) (factor : Float) (masks : List ℕ) (
       by-test : (b : Bool) → tooMany n ≡ b
           → refusal ((1, b) ∷ (3, any badCentre cs) ∷ (4, any badRadius cs) ∷ (13, unequal masks areas) ∷ (2, tooManyRegions (length masks)) ∷ (5, not (rising masks)) ∷ (6, badFactor factor) ∷ [])
           ≡ cond b 1 (layoutRefusal cs factor masks areas)
-      by-test true e = at-once (any badCentre cs) (any badRadius cs) (unequal masks areas) (tooManyRegions (length masks)) (not (rising masks)) (badFactor factor)
+      by-test true e = many-at-once _
       by-test false e =
-          in-order false (any badCentre cs) (any badRadius cs) (unequal masks areas) (tooManyRegions (length masks)) (not (rising masks)) (badFactor factor)
+          layout-checks false (any badCentre cs) (any badRadius cs) (unequal masks areas) (tooManyRegions (length masks)) (not (rising masks)) (badFactor factor)
           ∙ rw (few-in-front n xs ys rs e)
-
-  both : (b : Bool) → tooMany n ≡ b → _≡_ {A = ℕ} (cond b 1 (layoutRefusal cs factor masks areas)) 0 → (tooMany n ≡ false) × (layoutRefusal cs factor masks areas ≡ 0)
-  both true e z = absurd (omega arith)
-  both false e z = (e, z)
 
   pub number-none : frontNumber n xs ys rs factor masks areas ≡ 0 → (n ≤ maxCircles) × (layoutRefusal cs factor masks areas ≡ 0)
   unfolding frontNumber circleCap
-  number-none z = let b = both (tooMany n) refl z in (few n (b .0), b .1)
+  number-none z = count-accepted n _ z
 
   -- ---- a refusal
   refused-result : frontNumber n xs ys rs factor masks areas ≢ 0 → refusedLayout (frontNumber n xs ys rs factor masks areas) [] .result ≡ frontLayout n xs ys rs factor masks areas .result

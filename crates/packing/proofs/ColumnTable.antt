@@ -3,20 +3,21 @@ use Prim.Native.Nat.{ℕ, zero, suc, _≤_, _<_}
 use native.Mathlib.Omega.{arith}
 use mathlib.Core.Path.{_≡_, refl, sym, ap, _∙_}
 use mathlib.Core.Logic.{_≢_}
-use mathlib.Core.Bool.{Bool, true, false, _&&_, cond}
+use mathlib.Core.Bool.{Bool, _&&_, cond}
 use mathlib.Core.List.{List, [], _∷_}
 use lib.Dec.{T, eqb, ltb, eqb→eq, ltb→lt}
 use lib.ListN.{getD}
 use Rattle.algebra.proofs.Table.{every, at}
 use Rattle.scope.specs.Numbers.{golden}
 use Rattle.scope.specs.Limits.{circleCap}
-use Rattle.scope.specs.Refusals.{frontToBack, tooMany, columnsRefusal, answer, refused, given}
+use Rattle.scope.specs.Refusals.{frontToBack, tooMany, columnsRefusal, refused, given}
 use Rattle.scope.specs.Packing.{columns, columnsAnswer}
 use Rattle.scope.specs.Computing.{computing}
 use Rattle.laws.proofs.Cases.{and-iff}
 use Rattle.laws.proofs.EntryPoints.{columns-reads}
+use Rattle.laws.proofs.AfterRefusal.{columns-answers}
+use Rattle.laws.proofs.ByValue.{count-accepted}
 use Rattle.intake.specs.Limits.{maxCircles}
-use Rattle.intake.proofs.Checking.{few}
 
 -- the columns of 1 to 64 boxes
 abbrev pub table : List ℕ
@@ -45,26 +46,15 @@ columns-order : (k : ℕ) → columnsRefusal k ≡ cond (tooMany k) 1 0
 unfolding frontToBack
 columns-order k = columns-reads k .runs
 
-by-number : (r k : ℕ) → r ≢ 0 → refused r ≡ answer r k
-unfolding answer
-by-number zero k h = absurd (h refl)
-by-number (suc r) k h = refl
-
 pub columns-refused : (k r : ℕ) → r ≡ columnsRefusal k → r ≢ 0 → refused r ≡ columnsAnswer k
-unfolding columnsAnswer
-columns-refused k r e h = by-number r (columns k golden) h ∙ ap (λ (n : ℕ). answer n (columns k golden)) e
+columns-refused k r e h = ap refused e ∙ sym (columns-answers k .at-refusal (λ z. h (e ∙ z)))
 
 pub columns-given : (k : ℕ) → columnsRefusal k ≡ 0 → given (columns k golden) ≡ columnsAnswer k
-unfolding columnsAnswer answer
-columns-given k h = rw h
+columns-given k h = sym (columns-answers k .on-acceptance h)
 
 pub columns-few : (k : ℕ) → columnsRefusal k ≡ 0 → k ≤ maxCircles
 unfolding circleCap
-columns-few k h = by-test (tooMany k) refl (sym (columns-order k) ∙ h)
-  where
-    by-test : (b : Bool) → tooMany k ≡ b → _≡_ {A = ℕ} (cond b 1 0) 0 → k ≤ maxCircles
-    by-test true e z = absurd (omega arith)
-    by-test false e z = few k e
+columns-few k h = count-accepted k 0 (sym (columns-order k) ∙ h) .0
 
 -- ---- at least 2, and fewer than there may be boxes
 

@@ -1,14 +1,13 @@
 -- The whole answer for boxes of given sides: refused, or the boxes put together again from their sides and the places of their centres.
-use Prim.Native.Nat.{ℕ, zero, suc, _≤_, _<_, min}
+use Prim.Native.Nat.{ℕ, _≤_, _<_, min}
 use native.Mathlib.Nat.{min-eq-left}
 use native.Mathlib.Omega.{arith}
 use mathlib.Core.Path.{_≡_, refl, sym, ap, _∙_}
-use mathlib.Core.Logic.{_≢_}
 use mathlib.Core.Bool.{Bool, true, false, not, cond, _||_}
-use mathlib.Core.List.{List, []}
+use mathlib.Core.List.{List}
 use lib.Dec.{eqb}
 use borrow.Author.Tests.{eq-eqb}
-use lib.ListN.{length, getD, take, drop, List·getD-append}
+use lib.ListN.{length, take, drop, List·getD-append}
 use lib.Seq.{length-take-le, getD-take, ext-getD}
 use lib.Ieee.{Float, nan}
 use Rattle.shapes.specs.declared.rectangle.Rectangle.{Rectangle}
@@ -17,11 +16,14 @@ use Rattle.scope.specs.Numbers.{golden}
 use Rattle.scope.specs.Runs.{tab, filled, any}
 use Rattle.scope.specs.Limits.{circleCap, sideOk}
 use Rattle.scope.specs.Refusals.{causes, causeHolds, first, refusal, tooMany, badSide, packRefusal}
-use Rattle.scope.specs.Packing.{Packing, noRectangle, rectangle, widthAt, heightAt, packed, refusedPacking, packing, skylinePack}
+use Rattle.scope.specs.Packing.{Packing, noRectangle, rectangle, widthAt, heightAt, packed, refusedPacking, acceptedPacking, packing, skylinePack}
 use Rattle.scope.specs.Twins.{firstPacking}
+use Rattle.laws.specs.Answers.{Answers}
 use Rattle.laws.proofs.Cases.{is-false}
 use Rattle.laws.proofs.Accepted.{not-too-many-iff}
 use Rattle.laws.proofs.Runs.{length-tab, getD-tab}
+use Rattle.laws.proofs.AfterRefusal.{packing-answers}
+use Rattle.laws.proofs.ByValue.{unless-many, count-accepted}
 use Rattle.intake.specs.Limits.{maxCircles}
 use Rattle.intake.specs.Columns.{at, overwritten, widthsOf, heightsOf}
 use Rattle.intake.proofs.Checking.{few}
@@ -37,35 +39,15 @@ unfolding overwritten
 front-at l m i h = List·getD-append l (drop (length l) m) nan i h
 
 -- ---- refused or accepted
-by-count : (b : Bool) (k : ℕ) (l : List Rectangle) → cond b (refusedPacking 1) (packing k l) ≡ packing (cond b 1 k) l
-unfolding packing
-by-count true k l = refl
-by-count false k l = refl
-
-refused-by : (k : ℕ) (l : List Rectangle) → k ≢ 0 → packing k l ≡ refusedPacking k
-unfolding packing
-refused-by zero l h = absurd (h refl)
-refused-by (suc k) l h = refl
-
 module _ (n : ℕ) (ws hs : List Float) (pad : Float) where
-  answered : sidedPacking n ws hs pad ≡ packing (sidesNumber n ws hs pad) (packed golden (sided n ws hs) pad)
-  unfolding sidedPacking sidesNumber skylinePack
-  answered = by-count (tooMany n) (packRefusal (sided n ws hs) pad) (packed golden (sided n ws hs) pad)
-
-  pub sided-refused : sidesNumber n ws hs pad ≢ 0 → sidedPacking n ws hs pad ≡ refusedPacking (sidesNumber n ws hs pad)
-  sided-refused h = answered ∙ refused-by (sidesNumber n ws hs pad) (packed golden (sided n ws hs) pad) h
-
-  pub sided-accepted : sidesNumber n ws hs pad ≡ 0 → sidedPacking n ws hs pad ≡ record { refusal = 0; rectangles = filled circleCap noRectangle (packed golden (sided n ws hs) pad) }
-  unfolding packing
-  sided-accepted h = rw (answered, h)
+  pub sided-answers :
+      Answers (λ (a : Packing). a .refusal) (sidesNumber n ws hs pad) (sidedPacking n ws hs pad) refusedPacking (acceptedPacking (packed golden (sided n ws hs) pad))
+  unfolding sidesNumber sidedPacking
+  sided-answers = unless-many (tooMany n) (λ k. refl) (packing-answers (sided n ws hs) pad)
 
   pub accepted-few : sidesNumber n ws hs pad ≡ 0 → n ≤ maxCircles
   unfolding sidesNumber circleCap
-  accepted-few z = by-test (tooMany n) refl z
-    where
-      by-test : (b : Bool) → tooMany n ≡ b → _≡_ {A = ℕ} (cond b 1 (packRefusal (sided n ws hs) pad)) 0 → n ≤ maxCircles
-      by-test true e y = absurd (omega arith)
-      by-test false e y = few n e
+  accepted-few z = count-accepted n _ z .0
 
   -- ---- the boxes from their sides and the places of their centres
   abbrev boxes : List Rectangle
@@ -105,7 +87,7 @@ module _ (n : ℕ) (ws hs : List Float) (pad : Float) where
       let yes = eq-eqb r 0 none in
       let same-x : xs′ ≡ overwritten (centreXs boxes) xs = x ∙ rw yes in
       let same-y : ys′ ≡ overwritten (centreYs boxes) ys = y ∙ rw yes in
-      ap (λ (l : List Rectangle). record { refusal = 0; rectangles = l }) (e ∙ rw (same-x, same-y, boxes-back xs ys)) ∙ sym (sided-accepted (sym number ∙ none))
+      ap (λ (l : List Rectangle). record { refusal = 0; rectangles = l }) (e ∙ rw (same-x, same-y, boxes-back xs ys)) ∙ sym (sided-answers .on-acceptance (sym number ∙ none))
 
 -- ---- only the sides matter
 by-lists : {k : ℕ} {ws hs : List Float} (l : List Rectangle) → Sides k ws hs l → any badSide l ≡ any (λ x. not (sideOk x)) (tab k (at ws)) || any (λ x. not (sideOk x)) (tab k (at hs))

@@ -18,6 +18,7 @@ use Rattle.scope.specs.Limits.{sideOk, circleCap}
 use Rattle.scope.specs.Refusals.{causes, causeHolds, first, refusal, tooMany, badSide, badPadding, packRefusal}
 use Rattle.scope.specs.Packing.{columns, before, place, placed, noRectangle, rectangle, rectangleArea, places, columnOf, rowOf, widthAt, heightAt, placedCentre, packed}
 use Rattle.laws.proofs.Runs.{length-tab, getD-tab, tab-equal, many-equal, many-at-most, many-weaker-once}
+use Rattle.laws.proofs.ByValue.{many-at-once}
 use Rattle.intake.specs.Columns.{at, overwritten}
 use Rattle.intake.specs.Limits.{maxCircles}
 use Rattle.intake.proofs.Columns.{any-either, not-both}
@@ -187,17 +188,13 @@ module _ (n : ℕ) (ws hs : List Float) (pad : Float) (w : length ws ≡ maxCirc
   either-side m true b p = refl
   either-side m false b p = refl
 
-  at-once : (a b p : Bool) → refusal ((1, true) ∷ (7, a) ∷ (7, b) ∷ (8, p) ∷ []) ≡ 1
-  unfolding refusal first causeHolds causes
-  at-once a b p = refl
-
   pub sides-number : refusal ((1, tooMany n) ∷ (7, any long (take (min n maxCircles) ws)) ∷ (7, any long (take (min n maxCircles) hs)) ∷ (8, badPadding pad) ∷ []) ≡ sidesNumber n ws hs pad
   unfolding sidesNumber packRefusal circleCap
   sides-number = by-test (tooMany n) refl
     where
       by-test : (b : Bool) → tooMany n ≡ b
           → refusal ((1, b) ∷ (7, any long (take (min n maxCircles) ws)) ∷ (7, any long (take (min n maxCircles) hs)) ∷ (8, badPadding pad) ∷ []) ≡ cond b 1 (packRefusal (sided n ws hs) pad)
-      by-test true e = at-once _ _ (badPadding pad)
+      by-test true e = many-at-once _
       by-test false e =
           let l : n ≤ maxCircles = few n e in
           let first : refusal ((1, false) ∷ (7, any long (take n ws)) ∷ (7, any long (take n hs)) ∷ (8, badPadding pad) ∷ []) ≡ packRefusal (sided n ws hs) pad =

@@ -2,9 +2,10 @@
 use mathlib.Core.Path.{_≡_, sym, ap, _∙_}
 use borrow.Author.Needs.{needs}
 use Rattle.scope.specs.Limits.{circleCap}
-use Rattle.scope.specs.Groups.{refusedGrouping}
+use Rattle.scope.specs.Groups.{refusedGrouping, grouping}
 use Rattle.intake.proofs.CauseWords.{number-says}
-use Rattle.clustering.proofs.PlainClusters.{front-number, counted-refused, counted-few, counted-accepted}
+use Rattle.laws.proofs.ByValue.{count-accepted}
+use Rattle.clustering.proofs.PlainClusters.{front-number, counted-answers}
 use Rattle.clustering.proofs.clusters_at.Statement.{statement}
 use Rattle.clustering.proofs.clusters_at.Tie as tie
 
@@ -22,7 +23,7 @@ returns c =
     let s = c .before .before in
     let a = s .before .before .args in
     let number = s .number-of .ensures ∙ number-says _ _ (s .before .of-circles .ensures) ∙ front-number (a .n) (a .xs .now) (a .ys .now) (a .radii .now) in
-    c .refused .ensures ∙ ap refusedGrouping number ∙ sym (counted-refused _ _ (λ z. c .before .if1 .taken (number ∙ z)))
+    c .refused .ensures ∙ ap refusedGrouping number ∙ sym (counted-answers _ _ .at-refusal (λ z. c .before .if1 .taken (number ∙ z)))
 
 in-front-requires : tie.Need-in-front-requires
 unfolding circleCap
@@ -30,14 +31,15 @@ in-front-requires c κs =
     let s = c .before .before .before .before in
     let a = s .before .before .args in
     let number = s .number-of .ensures ∙ number-says _ _ (s .before .of-circles .ensures) ∙ front-number (a .n) (a .xs .now) (a .ys .now) (a .radii .now) in
-    (counted-few _ _ (sym number ∙ c .before .before .before .if1 .left), search needs, search needs, search needs)
+    (count-accepted _ _ (sym number ∙ c .before .before .before .if1 .left) .0, search needs, search needs, search needs)
 
 returns-2 : tie.Need-returns-2
+unfolding grouping
 returns-2 c =
     let s = c .before .before .before .before .before in
     let a = s .before .before .args in
     let number = s .number-of .ensures ∙ number-says _ _ (s .before .of-circles .ensures) ∙ front-number (a .n) (a .xs .now) (a .ys .now) (a .radii .now) in
-    c .in-front .ensures ∙ counted-accepted _ _ (sym number ∙ c .before .before .before .before .if1 .left)
+    c .in-front .ensures ∙ sym (counted-answers _ _ .on-acceptance (sym number ∙ c .before .before .before .before .if1 .left))
 
 pub clusters-at-spec : {M : Type 1} → statement M
 clusters-at-spec =

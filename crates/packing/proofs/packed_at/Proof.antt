@@ -2,7 +2,7 @@
 use mathlib.Core.Path.{_≡_, sym, ap, _∙_}
 use borrow.Author.Needs.{needs}
 use Rattle.scope.specs.Packing.{refusedPacking}
-use Rattle.packing.proofs.PackedBoxes.{sided-refused, accepted-few, put-together}
+use Rattle.packing.proofs.PackedBoxes.{sided-answers, accepted-few, put-together}
 use Rattle.packing.proofs.packed_at.Statement.{statement}
 use Rattle.packing.proofs.packed_at.Tie as tie
 
@@ -15,7 +15,7 @@ refused-requires c κs = search needs
 returns : tie.Need-returns
 returns c =
     let number = c .before .before .pack-sides .ensures .0 in
-    c .refused .ensures ∙ ap refusedPacking number ∙ sym (sided-refused _ _ _ _ (λ z. c .before .if1 .taken (number ∙ z)))
+    c .refused .ensures ∙ ap refusedPacking number ∙ sym (sided-answers _ _ _ _ .at-refusal (λ z. c .before .if1 .taken (number ∙ z)))
 
 boxes-at-requires : tie.Need-boxes-at-requires
 boxes-at-requires c κs = let s = c .before .before .before in accepted-few _ _ _ _ (sym (s .pack-sides .ensures .0) ∙ c .before .before .if1 .left)
