@@ -1,8 +1,8 @@
--- Each entry point's number, read off its checks both ways.
+-- Each entry point's number, read off its checks both ways: they stand in the order of the causes, so they run front to back, by computation.
 use Prim.Native.Nat.{ℕ, suc}
 use native.Mathlib.Omega.{arith}
 use mathlib.Core.Logic.{_≢_}
-use mathlib.Core.Bool.{not, _&&_, _||_}
+use mathlib.Core.Bool.{not, _&&_, _||_, or-false}
 use mathlib.Core.List.{List, [], _∷_}
 use lib.ListN.{length}
 use lib.Dec.{eqb}
@@ -12,58 +12,58 @@ use Rattle.shapes.specs.declared.circle.Circle.{Circle}
 use Rattle.shapes.specs.declared.rectangle.Rectangle.{Rectangle}
 use Rattle.scope.specs.Runs.{any}
 use Rattle.scope.specs.Limits.{circleCap}
-use Rattle.scope.specs.Refusals.{causes, causeHolds, tooMany, unequal, tooManyRegions, badPoint, badCentre, badRadius, rising, badFactor, badSide, badPadding, pointsRefusal, pairRefusal, circlePointRefusal, circlesRefusal, regionsRefusal, columnsRefusal, packRefusal, containerRefusal, layoutRefusal}
+use Rattle.scope.specs.Refusals.{causes, causeHolds, first, refusal, frontToBack, tooMany, unequal, tooManyRegions, badPoint, badCentre, badRadius, rising, badFactor, badSide, badPadding, pointsRefusal, pairRefusal, circlePointRefusal, circlesRefusal, regionsRefusal, columnsRefusal, packRefusal, containerRefusal, layoutRefusal}
 use Rattle.scope.specs.Distance.{noRoot, rootRefusal}
 use Rattle.scope.specs.CardFile.{Card, tag, headCut, bodyCut, unknown, wrongLength, misplaced, fieldRefusal, firstRefusal, nextRefusal}
 use Rattle.laws.specs.BothWays.{Reads}
-use Rattle.laws.proofs.FrontToBack.{front-to-back-reads, refusal-reads, only-for-its-cause}
+use Rattle.laws.proofs.FrontToBack.{front-to-back-reads, as-front-to-back, only-for-its-cause}
 
 pub root-reads : (x : Float) → Reads (rootRefusal x) ((12, noRoot x) ∷ [])
-unfolding rootRefusal causes
-root-reads x = refusal-reads _ tt tt
+unfolding rootRefusal refusal first causeHolds causes frontToBack
+root-reads x = as-front-to-back _ tt (simp or-false)
 
 pub points-reads : (p q : Point) → Reads (pointsRefusal p q) ((3, badPoint p || badPoint q) ∷ [])
-unfolding pointsRefusal causes
-points-reads p q = refusal-reads _ tt tt
+unfolding pointsRefusal refusal first causeHolds causes frontToBack
+points-reads p q = as-front-to-back _ tt (simp or-false)
 
 pub pair-reads : (a b : Circle) → Reads (pairRefusal a b) ((3, badCentre a || badCentre b) ∷ (4, badRadius a || badRadius b) ∷ [])
-unfolding pairRefusal causes
-pair-reads a b = refusal-reads _ tt tt
+unfolding pairRefusal refusal first causeHolds causes frontToBack
+pair-reads a b = as-front-to-back _ tt (simp or-false)
 
 pub circle-point-reads : (c : Circle) (p : Point) → Reads (circlePointRefusal c p) ((3, badCentre c || badPoint p) ∷ (4, badRadius c) ∷ [])
-unfolding circlePointRefusal causes
-circle-point-reads c p = refusal-reads _ tt tt
+unfolding circlePointRefusal refusal first causeHolds causes frontToBack
+circle-point-reads c p = as-front-to-back _ tt (simp or-false)
 
 pub circles-reads : (cs : List Circle) → Reads (circlesRefusal cs) ((1, tooMany (length cs)) ∷ (3, any badCentre cs) ∷ (4, any badRadius cs) ∷ [])
-unfolding circlesRefusal causes
-circles-reads cs = refusal-reads _ tt tt
+unfolding circlesRefusal refusal first causeHolds causes frontToBack
+circles-reads cs = as-front-to-back _ tt (simp or-false)
 
 pub regions-reads : (n : ℕ) (masks : List ℕ) (areas : List Float)
     → Reads (regionsRefusal n masks areas) ((1, tooMany n) ∷ (13, unequal masks areas) ∷ (2, tooManyRegions (length masks)) ∷ (5, not (rising masks)) ∷ [])
-unfolding regionsRefusal causes
-regions-reads n masks areas = refusal-reads _ tt tt
+unfolding regionsRefusal refusal first causeHolds causes frontToBack
+regions-reads n masks areas = as-front-to-back _ tt (simp or-false)
 
 pub columns-reads : (k : ℕ) → Reads (columnsRefusal k) ((1, tooMany k) ∷ [])
-unfolding columnsRefusal causes
-columns-reads k = refusal-reads _ tt tt
+unfolding columnsRefusal refusal first causeHolds causes frontToBack
+columns-reads k = as-front-to-back _ tt (simp or-false)
 
 pub pack-reads : (rects : List Rectangle) (padding : Float)
     → Reads (packRefusal rects padding) ((1, tooMany (length rects)) ∷ (7, any badSide rects) ∷ (8, badPadding padding) ∷ [])
-unfolding packRefusal causes
-pack-reads rects padding = refusal-reads _ tt tt
+unfolding packRefusal refusal first causeHolds causes frontToBack
+pack-reads rects padding = as-front-to-back _ tt (simp or-false)
 
 pub container-reads : (cs : List Circle) (container : Rectangle)
     → Reads (containerRefusal cs container)
     ((1, tooMany (length cs)) ∷ (3, any badCentre cs || badPoint (container .center)) ∷ (4, any badRadius cs) ∷ (7, badSide container) ∷ [])
-unfolding containerRefusal causes
-container-reads cs container = refusal-reads _ tt tt
+unfolding containerRefusal refusal first causeHolds causes frontToBack
+container-reads cs container = as-front-to-back _ tt (simp or-false)
 
 pub layout-reads : (cs : List Circle) (factor : Float) (masks : List ℕ) (areas : List Float)
     → Reads (layoutRefusal cs factor masks areas)
     ((1, tooMany (length cs)) ∷ (13, unequal masks areas) ∷ (2, tooManyRegions (length masks)) ∷ (3, any badCentre cs) ∷ (4, any badRadius cs)
     ∷ (5, not (rising masks)) ∷ (6, badFactor factor) ∷ [])
-unfolding layoutRefusal causes
-layout-reads cs factor masks areas = refusal-reads _ tt tt
+unfolding layoutRefusal refusal first causeHolds causes frontToBack
+layout-reads cs factor masks areas = as-front-to-back _ tt (simp or-false)
 
 -- ---- the card file: each call's checks run front to back as they stand
 
