@@ -98,7 +98,8 @@ plain-grouping-answers cs = grouping-answers (circlesRefusal cs) (plainClusters 
 -- ---- packing: all rectangles 0
 
 pub packing-answers : (rects : List Rectangle) (padding : Float)
-    → Answers (λ (a : Packing). a .refusal) (packRefusal rects padding) (skylinePack rects padding) refusedPacking (acceptedPacking (packed golden rects padding))
+    → Answers (λ (a : Packing). a .refusal) (packRefusal rects padding) (skylinePack rects padding) refusedPacking
+    (acceptedPacking (packed golden rects padding))
 unfolding skylinePack packing
 packing-answers rects padding =
     by-number (λ a. a .refusal) refusedPacking (λ k. packing k (packed golden rects padding)) refl (λ k. refl) (λ k. refl) (packRefusal rects padding)

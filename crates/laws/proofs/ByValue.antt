@@ -85,8 +85,8 @@ module _ (n : ℕ) (rects : List Rectangle) (padding : Float) where
 
 module _ (n : ℕ) (cs : List Circle) (container : Rectangle) where
   pub first-contained-answers :
-      Answers (λ (a : Contained). a .refusal) (frontToBack (firstContainerChecks n cs container)) (firstContained n cs container) (refusedContainer cs container)
-      (withRest n cs (settled container (take n cs)))
+      Answers (λ (a : Contained). a .refusal) (frontToBack (firstContainerChecks n cs container)) (firstContained n cs container)
+      (refusedContainer cs container) (withRest n cs (settled container (take n cs)))
   unfolding firstContained
   first-contained-answers =
       counted n _ _ (first-few n cs) (λ k. refl)

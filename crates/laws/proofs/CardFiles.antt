@@ -3,13 +3,13 @@
 use Prim.Native.Nat.{ℕ, zero, suc, _+_, _≤_, _<_}
 use native.Mathlib.Omega.{arith}
 use mathlib.Core.Path.{_≡_, refl, sym, ap, _∙_, subst}
-use mathlib.Core.Logic.{_↔_, _⊎_, inl, inr, ⊎-elim, _≢_}
+use mathlib.Core.Logic.{_⊎_, inl, inr, ⊎-elim, _≢_}
 use mathlib.Core.List.{List, [], _∷_}
 use lib.Dec.{eqb}
 use lib.ListN.{length, drop, length-drop}
 use Rattle.scope.specs.Refusals.{Answer, refused, given, answer}
 use Rattle.scope.specs.CardFile.{Card, tag, body, bodyLength, headLength, headCut, word, floatOf, started, withField, firstRefusal, nextRefusal, orRefused, fields, readFile, valuesRefusal, valued, readCard}
-use Rattle.laws.specs.Answers.{refusalOf}
+use Rattle.laws.specs.Answers.{Decides, refusalOf}
 use Rattle.laws.specs.CardFiles.{afterField, Reaches, after-first, after-next, FileRefused, at-first, at-next, CardRefused, by-field, by-values}
 use Rattle.laws.proofs.Cases.{not-not-iff, not-ltb-iff, eqb-iff, tested}
 use Rattle.laws.proofs.EntryPoints.{first-field-reads, next-field-reads}
@@ -17,22 +17,19 @@ use Rattle.laws.proofs.AfterRefusal.{answer-answers}
 
 -- ---- answers in general: if each of the two says which answer it is, and one of them always holds, then each holds exactly where the answer is its own
 
-abbrev Either : {A : Type 0} → (A → Type 0) → (ℕ → Type 0) → Type 0
-Either {A} Given Refused = ((a : A) × Given a) ⊎ ((k : ℕ) × ((k ≢ 0) × Refused k))
+abbrev Either : {A : Type 0} → (ℕ → Type 0) → (A → Type 0) → Type 0
+Either {A} Refused Given = ((k : ℕ) × ((k ≢ 0) × Refused k)) ⊎ ((a : A) × Given a)
 
-abbrev Decided : {A : Type 0} → Answer A → (A → Type 0) → (ℕ → Type 0) → Type 0
-Decided {A} r Given Refused = ((k : ℕ) → k ≢ 0 → (r ≡ refused k) ↔ Refused k) × ((a : A) → (r ≡ given a) ↔ Given a)
-
-decided : {A : Type 0} {r : Answer A} {Given : A → Type 0} {Refused : ℕ → Type 0} → ((a : A) → Given a → r ≡ given a)
-    → ((k : ℕ) → k ≢ 0 → Refused k → r ≡ refused k) → Either Given Refused → Decided r Given Refused
-decided {A} {r} {Given} {Refused} accepts refuses (inl (a, g)) = (
-  λ k nz. (λ e. absurd (nz (sym (ap refusalOf e) ∙ ap refusalOf (accepts a g))), refuses k nz),
-  λ b. (λ e. let both = sym (accepts a g) ∙ e in let is : a ≡ b = cc in subst Given is g, accepts b),
-)
-decided {A} {r} {Given} {Refused} accepts refuses (inr (j, (nj, f))) = (
-  λ k nz. (λ e. subst Refused (sym (ap refusalOf (refuses j nj f)) ∙ ap refusalOf e) f, refuses k nz),
-  λ b. (λ e. absurd (nj (sym (ap refusalOf (refuses j nj f)) ∙ ap refusalOf e)), accepts b),
-)
+decided : {A : Type 0} {r : Answer A} {Refused : ℕ → Type 0} {Given : A → Type 0} → ((k : ℕ) → k ≢ 0 → Refused k → r ≡ refused k)
+    → ((a : A) → Given a → r ≡ given a) → Either Refused Given → Decides r Refused Given
+decided {A} {r} {Refused} {Given} refuse accept (inl (j, (nj, f))) = record {
+  refuses = λ k nz. (λ e. subst Refused (sym (ap refusalOf (refuse j nj f)) ∙ ap refusalOf e) f, refuse k nz);
+  gives = λ b. (λ e. absurd (nj (sym (ap refusalOf (refuse j nj f)) ∙ ap refusalOf e)), accept b);
+}
+decided {A} {r} {Refused} {Given} refuse accept (inr (a, g)) = record {
+  refuses = λ k nz. (λ e. absurd (nz (sym (ap refusalOf e) ∙ ap refusalOf (accept a g))), refuse k nz);
+  gives = λ b. (λ e. let both = sym (accept a g) ∙ e in let is : a ≡ b = cc in subst Given is g, accept b);
+}
 
 -- ---- one field
 
@@ -96,17 +93,17 @@ module _ (file : List ℕ) where
   refuses k nz (at-next {card} {rest} r some e) = stands r ∙ next-field card rest some ∙ stops (nextRefusal card rest) _ (λ z. nz (sym e ∙ z)) ∙ ap refused e
 
   abbrev Outcome : Type 0
-  Outcome = Either (λ card. Reaches file card []) (FileRefused file)
+  Outcome = Either (FileRefused file) (λ card. Reaches file card [])
 
   -- the end, a refusal, or a field more and less left
   step : (card : Card) (rest : List ℕ) → Reaches file card rest
       → Outcome ⊎ (Reaches file (withField card rest) (afterField rest) × (length (afterField rest) < length rest))
-  step card [] r = inl (inl (card, r))
+  step card [] r = inl (inr (card, r))
   step card (b ∷ bs) r =
       let rest = b ∷ bs in
       elim (tested (eqb (nextRefusal card rest) 0)) [
         | yes h ↦ inr (after-next r (eqb-iff (nextRefusal card rest) 0 .0 h), omega (arith, length-drop (headLength + bodyLength b) rest))
-        | no h ↦ inl (inr (nextRefusal card rest, ((λ z. h (eqb-iff (nextRefusal card rest) 0 .1 z)), at-next r (omega arith) refl)))
+        | no h ↦ inl (inl (nextRefusal card rest, ((λ z. h (eqb-iff (nextRefusal card rest) 0 .1 z)), at-next r (omega arith) refl)))
       ]
 
   from : (n : ℕ) (card : Card) (rest : List ℕ) → length rest ≤ n → Reaches file card rest → Outcome
@@ -117,19 +114,13 @@ module _ (file : List ℕ) where
   outcome =
       elim (tested (eqb (firstRefusal file) 0)) [
         | yes h ↦ from (length (afterField file)) _ (afterField file) (omega arith) (after-first (eqb-iff (firstRefusal file) 0 .0 h))
-        | no h ↦ inr (firstRefusal file, ((λ z. h (eqb-iff (firstRefusal file) 0 .1 z)), at-first refl))
+        | no h ↦ inl (firstRefusal file, ((λ z. h (eqb-iff (firstRefusal file) 0 .1 z)), at-first refl))
       ]
 
   -- ---- the file
 
-  file-both-ways : Decided (readFile file) (λ card. Reaches file card []) (FileRefused file)
-  file-both-ways = decided (λ card. reads-all) refuses outcome
-
-  pub file-refused-iff : (k : ℕ) → k ≢ 0 → (readFile file ≡ refused k) ↔ FileRefused file k
-  file-refused-iff = file-both-ways .0
-
-  pub file-given-iff : (card : Card) → (readFile file ≡ given card) ↔ Reaches file card []
-  file-given-iff = file-both-ways .1
+  pub file-both-ways : Decides (readFile file) (FileRefused file) (λ card. Reaches file card [])
+  file-both-ways = decided refuses (λ card. reads-all) outcome
 
   -- ---- the card: then values
 
@@ -145,17 +136,12 @@ module _ (file : List ℕ) where
   card-refuses k nz (by-field f) = ap valued (refuses k nz f)
   card-refuses k nz (by-values {card} r e) = values-after r ∙ answer-answers (valuesRefusal card) card .at-refusal (λ z. nz (sym e ∙ z)) ∙ ap refused e
 
-  by-values-of : (card : Card) → Reaches file card [] → Either (λ (c : Card). Reaches file c [] × (valuesRefusal c ≡ 0)) (CardRefused file)
-  by-values-of card r = elim (tested (eqb (valuesRefusal card) 0)) [
-    | yes h ↦ inl (card, (r, eqb-iff (valuesRefusal card) 0 .0 h))
-    | no h ↦ inr (valuesRefusal card, ((λ z. h (eqb-iff (valuesRefusal card) 0 .1 z)), by-values r refl))
+  card-outcome : Outcome → Either (CardRefused file) (λ (card : Card). Reaches file card [] × (valuesRefusal card ≡ 0))
+  card-outcome (inl (k, (nz, f))) = inl (k, (nz, by-field f))
+  card-outcome (inr (card, r)) = elim (tested (eqb (valuesRefusal card) 0)) [
+    | yes h ↦ inr (card, (r, eqb-iff (valuesRefusal card) 0 .0 h))
+    | no h ↦ inl (valuesRefusal card, ((λ z. h (eqb-iff (valuesRefusal card) 0 .1 z)), by-values r refl))
   ]
 
-  card-both-ways : Decided (readCard file) (λ card. Reaches file card [] × (valuesRefusal card ≡ 0)) (CardRefused file)
-  card-both-ways = decided card-accepts card-refuses (⊎-elim (λ g. by-values-of (g .0) (g .1)) (λ f. inr (f .0, (f .1 .0, by-field (f .1 .1)))) outcome)
-
-  pub card-refused-iff : (k : ℕ) → k ≢ 0 → (readCard file ≡ refused k) ↔ CardRefused file k
-  card-refused-iff = card-both-ways .0
-
-  pub card-given-iff : (card : Card) → (readCard file ≡ given card) ↔ (Reaches file card [] × (valuesRefusal card ≡ 0))
-  card-given-iff = card-both-ways .1
+  pub card-both-ways : Decides (readCard file) (CardRefused file) (λ card. Reaches file card [] × (valuesRefusal card ≡ 0))
+  card-both-ways = decided card-refuses card-accepts (card-outcome outcome)

@@ -14,7 +14,7 @@ use Rattle.scope.specs.CardFile.{Card, valuesRefusal, readCard}
 use Rattle.scope.specs.Text.{bytes}
 use Rattle.scope.specs.Print.{decimal, printed, refusedText, answerText, cardText}
 use Rattle.laws.specs.CardFiles.{Reaches, InputRefused, too-long, by-card}
-use Rattle.laws.proofs.CardFiles.{card-refused-iff, card-given-iff}
+use Rattle.laws.proofs.CardFiles.{card-both-ways}
 use Rattle.laws.proofs.Decimal.{readOn, read-last, decimal-read}
 
 -- ---- the two kinds of text
@@ -44,7 +44,7 @@ module _ (input : List ℕ) where
   pub accepted-text : (card : Card) → length input ≤ inputCap → Reaches input card [] → valuesRefusal card ≡ 0
       → cardText input ≡ printed (layout (card .circles) (card .factor) (card .masks) (card .areas))
   unfolding answerText
-  accepted-text card h r z = short-text h ∙ ap answerText (card-given-iff input card .1 (r, z))
+  accepted-text card h r z = short-text h ∙ ap answerText (card-both-ways input .gives card .1 (r, z))
 
   pub text-refused-iff : (k : ℕ) → k ≢ 0 → (cardText input ≡ refusedText k) ↔ InputRefused input k
   unfolding answerText
@@ -58,8 +58,8 @@ module _ (input : List ℕ) where
       long e h = too-long h (refusals-differ k 2 (sym e ∙ long-text h))
 
       short : cardText input ≡ refusedText k → length input ≤ inputCap → InputRefused input k
-      short e h = by-card h (card-refused-iff input k nz .0 (by-answer (readCard input) refl (sym (short-text h) ∙ e)))
+      short e h = by-card h (card-both-ways input .refuses k nz .0 (by-answer (readCard input) refl (sym (short-text h) ∙ e)))
 
       back : InputRefused input k → cardText input ≡ refusedText k
       back (too-long h e) = long-text h ∙ ap refusedText (sym e)
-      back (by-card h r) = short-text h ∙ ap answerText (card-refused-iff input k nz .1 r)
+      back (by-card h r) = short-text h ∙ ap answerText (card-both-ways input .refuses k nz .1 r)

@@ -1,9 +1,9 @@
--- Tests read as statements: what `||`, `&&`, `not` and `cond` say of T.
+-- Tests read as statements: what `||`, `&&` and `not` say of T.
 use Prim.Native.Nat.{ℕ, _≤_}
 use native.Mathlib.Nat.{not-le-of-lt}
 use mathlib.Core.Path.{_≡_, refl, subst}
 use mathlib.Core.Logic.{_↔_, _⊎_, inl, inr, ⊎-elim}
-use mathlib.Core.Bool.{Bool, true, false, not, _&&_, _||_, cond}
+use mathlib.Core.Bool.{Bool, true, false, not, _&&_, _||_}
 use lib.Dec.{T, eqb, ltb, eqb→eq, eqb-refl, ltb→lt, nltb→le}
 
 pub or-iff : (a b : Bool) → T (a || b) ↔ (T a ⊎ T b)
@@ -24,10 +24,6 @@ not-iff false = (λ h g. g, λ h. tt)
 pub not-not-iff : (b : Bool) → (¬ T (not b)) ↔ T b
 not-not-iff true = (λ h. tt, λ h g. g)
 not-not-iff false = (λ h. h tt, λ h. absurd h)
-
-pub cond-iff : (b x y : Bool) → T (cond b x y) ↔ ((T b × T x) ⊎ ((¬ T b) × T y))
-cond-iff true x y = (λ h. inl (tt, h), ⊎-elim (λ h. h .1) (λ h. absurd (h .0 tt)))
-cond-iff false x y = (λ h. inr ((λ t. t), h), ⊎-elim (λ h. absurd (h .0)) (λ h. h .1))
 
 pub eqb-iff : (m n : ℕ) → T (eqb m n) ↔ (m ≡ n)
 eqb-iff m n = (eqb→eq m n, λ e. subst (λ (k : ℕ). T (eqb m k)) e (eqb-refl m))

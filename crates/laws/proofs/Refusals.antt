@@ -23,4 +23,5 @@ table-reads cs = rw (first-by-table cs causes) (front-to-back-reads (byTable cs 
 pub thirteen-before-two : (cs : Checks) → refusal cs ≡ 2 → ¬ T (causeHolds cs 13)
 unfolding causes
 thirteen-before-two cs e =
-    ⊎-elim (λ f. absurd (omega (arith, f .0))) (λ f. ⊎-elim (λ g. absurd (omega (arith, g .0))) (λ g. g .0) (f .1)) (table-reads cs .refused 2 (omega arith) .0 e)
+    ⊎-elim (λ f. absurd (omega (arith, f .0))) (λ f. ⊎-elim (λ g. absurd (omega (arith, g .0))) (λ g. g .0) (f .1))
+    (table-reads cs .refused 2 (omega arith) .0 e)

@@ -107,7 +107,10 @@ module _ (x : Float) (f : fits binary64 x ≡ true) where
   when-zero e = subst (λ (z : Float). given z ≡ rootAnswer z) (ap (ofBits binary64) (sym e) ∙ back) (sym zero-given)
 
   pub when-top : infinity ≤ toBits binary64 x → toBits binary64 x ≤ 2 ^ 63 → T (not (isNan x)) → given x ≡ rootAnswer x
-  when-top l h n = subst (λ (z : Float). given z ≡ rootAnswer z) back (sym (pattern-top (toBits binary64 x) l h (subst (λ (z : Float). T (not (isNan z))) (sym back) n)))
+  when-top l h n =
+      subst (λ (z : Float). given z ≡ rootAnswer z) back
+      (sym (pattern-top (toBits binary64 x) l h (subst (λ (z : Float). T (not (isNan z))) (sym back) n)))
 
-  pub when-above : (r : Float) → 0 < toBits binary64 x → toBits binary64 x < infinity → r ≡ root binary64 (ofBits binary64 (toBits binary64 x)) → given r ≡ rootAnswer x
+  pub when-above : (r : Float) → 0 < toBits binary64 x → toBits binary64 x < infinity → r ≡ root binary64 (ofBits binary64 (toBits binary64 x))
+      → given r ≡ rootAnswer x
   when-above r p l e = ap given e ∙ sym (pattern-above (toBits binary64 x) p l) ∙ ap rootAnswer back
