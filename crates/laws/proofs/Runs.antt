@@ -5,7 +5,7 @@ use native.Mathlib.Decide.{decLe, decLt}
 use mathlib.Core.Path.{_≡_, refl, ap, subst}
 use mathlib.Core.Logic.{_↔_, _⊎_, inl, inr, ⊎-elim}
 use mathlib.Core.Bool.{Bool}
-use mathlib.Core.List.{List, [], _∷_, _++_, List·Memᴰ, List·Memᴰ·head, List·Memᴰ·tail, List·Memᴰ·cases-cons, List·Memᴰ·not-nil}
+use mathlib.Core.List.{List, [], _∷_, _++_}
 use lib.ListN.{length, getD, replicate, length-append, length-replicate, List·getD-append, List·getD-eq-default, getD-replicate}
 use lib.Seq.{getD-append-add}
 use lib.Dec.{T}
@@ -180,16 +180,6 @@ someBelow-iff n p = (found n, λ e. passes-below n p (e .0) (e .1) (e .2))
     found (suc m) h = ⊎-elim (λ t. let e = found m t in (e .0, omega (arith, e .1), e .2)) (λ t. (m, omega arith, t)) (or-iff (someBelow m p) (p m) .0 h)
 
 module _ {ℓ} {A : Type ℓ} (p : A → Bool) where
-  -- by an element
-  pub any-iff : (l : List A) → T (any p l) ↔ ((a : A) × List·Memᴰ a l × T (p a))
-  unfolding any
-  any-iff [] = (λ h. absurd h, λ e. absurd (List·Memᴰ·not-nil (e .1)))
-  any-iff (a ∷ l) =
-      let rest = any-iff l in (
-        λ h. ⊎-elim (λ t. (a, List·Memᴰ·head refl, t)) (λ t. let e = rest .0 t in (e .0, List·Memᴰ·tail (e .1), e .2)) (or-iff (p a) (any p l) .0 h),
-        λ e. or-iff (p a) (any p l) .1 (⊎-elim (λ q. inl (rw q at (e .2))) (λ m. inr (rest .1 (e .0, m, e .2))) (List·Memᴰ·cases-cons (e .1))),
-      )
-
   -- by a place
   pub any-at : (l : List A) (d : A) → T (any p l) ↔ ((i : ℕ) × (i < length l) × T (p (getD l i d)))
   unfolding any
