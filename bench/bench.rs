@@ -14,6 +14,7 @@ struct Record {
     x: f64,
     y: f64,
     radius: f64,
+    ink: u16,
 }
 
 #[repr(C)]
@@ -59,7 +60,8 @@ impl Card {
         regions.dedup_by_key(|r| r.0);
         Card {
             factor: 0.015,
-            circles: circles.iter().map(|&[x, y, radius]| Record { x, y, radius }).collect(),
+            // any two inks differ, so that all of them are looked at; 40503 is odd
+            circles: (0u16..).zip(circles).map(|(i, &[x, y, radius])| Record { x, y, radius, ink: i.wrapping_mul(40503) }).collect(),
             masks: regions.iter().map(|r| r.0).collect(),
             areas: regions.iter().map(|r| r.1).collect(),
         }
@@ -184,8 +186,10 @@ fn layouts(name: &str, cards: Vec<Card>, repeats: usize) {
     let maps: Vec<_> = cards.iter().map(Card::areas_of).collect();
     for (card, map) in cards.iter().zip(&maps) {
         let theirs: Vec<_> = card.rust(map).iter().map(|c| [c.center().x(), c.center().y(), c.radius()]).collect();
-        let ours: Vec<_> = card.port().iter().map(|c| [c.x, c.y, c.radius]).collect();
+        let placed = card.port();
+        let ours: Vec<_> = placed.iter().map(|c| [c.x, c.y, c.radius]).collect();
         assert_eq!(ours, theirs, "{name}: the answers differ");
+        assert!(placed.iter().map(|c| c.ink).eq(card.circles.iter().map(|c| c.ink)), "{name}: the inks differ");
     }
     report(
         name,

@@ -7,13 +7,20 @@
  * A run of records or numbers is a pointer and how many lie there. A pointer is never NULL, not even to an empty run. What a call rewrites may overlap nothing
  * else that it is lent. A struct that comes back has padding bytes, which are not set: compare its fields, not its bytes.
  *
+ * A circle has the number of its ink, any of 0 to 65,535, and keeps it. Two circles of one run may not have the same (14): a caller that has no use for inks
+ * gives 0, 1, 2 and so on. Calls on two circles, or on one, do not look at inks.
+ *
+ * A caller that was written for circles without inks is compiled anew, since a circle has 32 bytes and not 24; gives each circle its ink, since the second one
+ * left at 0 is refused; hands the ink to rundhefja_circle_from_params; and has circle fields of 26 bytes in its card files, since those of 24 are refused (10).
+ *
  * What is proved holds in IEEE 754's default state, round to nearest and with subnormals, in which a program starts unless it is linked with -ffast-math or the
  * like. In another, last bits change, and a side or a factor just below 0 passes for 0. rundhefja_floats_ok tells.
  *
  * refusal: 0 none; 1 more than 64 circles or rectangles; 2 more than 2,048 regions, or an input of more than 65,536 bytes; 3 a coordinate that is not finite
  * or above 2^20 in size; 4 a radius that is not finite or outside 2^-20 to 2^20; 5 masks that do not rise strictly; 6 a factor that is not finite or outside
  * 0 to 1; 7 a side that is not finite or outside 0 to 2^23; 8 a padding that is not finite or outside 0 to 2^26; 9 a tag unknown or out of place; 10 a
- * field's length wrong for its tag; 11 a file that ends inside a field; 12 the root of NaN or of a number below 0; 13 masks and areas of unequal number.
+ * field's length wrong for its tag; 11 a file that ends inside a field; 12 the root of NaN or of a number below 0; 13 masks and areas of unequal number;
+ * 14 two circles of one run, or of one file, that have the same ink.
  * The lowest that applies comes back, but 13 before 2; a file and a field are checked front to back, and a file's values after that. */
 #ifndef RUNDHEFJA_H
 #define RUNDHEFJA_H
@@ -44,6 +51,7 @@ typedef struct {
 typedef struct {
     rundhefja_point center;
     double radius;
+    uint16_t ink; /* its number in the recipe book; 6 bytes of padding follow */
 } rundhefja_circle;
 
 typedef struct {
@@ -123,21 +131,22 @@ typedef struct {
 
 /* ---- the whole layout
  *
- * Moves children off their parents' centres, turns and mirrors each cluster, packs the clusters in a grid and centres the whole. Rewrites circles. Region j has
- * the circles of the bits of masks[j], bit i for circle i, and the area areas[j]; masks rise strictly. factor says how much room lies between clusters.
- * Refuses 1, 13, 2, 3, 4, 5, 6.
+ * Moves children off their parents' centres, turns and mirrors each cluster, packs the clusters in a grid and centres the whole. Rewrites the circles' centres;
+ * radii, inks and the order stay. Region j has the circles of the bits of masks[j], bit i for circle i, and the area areas[j]; masks rise strictly. factor says
+ * how much room lies between clusters. Refuses 1, 13, 2, 3, 4, 5, 6, 14.
  *
  * Proved of each answer, to 1/65,536: circles of different clusters are the padding apart on one axis at least; circles of one cluster that were not moved keep
  * their distance; a moved circle does not reach past its parent; two circles have one number exactly if a chain of regions joins them. */
 rundhefja_layout_result rundhefja_layout(rundhefja_circle *circles, size_t circles_len, double factor, const uint64_t *masks, size_t masks_len,
                                          const double *areas, size_t areas_len);
 
-/* Moves the container to the origin, the circles along, and the circles to its middle, unless they reach past its edge. Rewrites circles. Refuses 1, 3, 4, 7. */
+/* Moves the container to the origin, the circles along, and the circles to its middle, unless they reach past its edge. Rewrites the circles' centres. Refuses
+ * 1, 3, 4, 7, 14. */
 rundhefja_container_result rundhefja_container(rundhefja_circle *circles, size_t circles_len, rundhefja_rectangle container);
 
 /* ---- its parts */
 
-/* Circles belong together if their edges cross or one lies inside the other, and by chains of these. Refuses 1, 3, 4. */
+/* Circles belong together if their edges cross or one lies inside the other, and by chains of these. Refuses 1, 3, 4, 14. */
 rundhefja_clusters_result rundhefja_clusters(const rundhefja_circle *circles, size_t circles_len);
 
 /* Circles 0 to n - 1 belong together if they share a region whose area is finite and not at most the tolerance, which may be any number, and by chains of these.
@@ -167,8 +176,9 @@ rundhefja_test rundhefja_intersects(rundhefja_circle a, rundhefja_circle b);
 /* The field that starts at a place of a file. Refuses 11, 9, 10. */
 rundhefja_field_result rundhefja_field(const uint8_t *file, size_t file_len, size_t at);
 
-/* The text that program card prints for a file. Returns how long it is, at most 4,096, and writes its bytes to text, as many as fit; the rest of text stays. A
- * file that is refused has the text "refused K\n". */
+/* The text that program card prints for a file: a line for the card, and for each circle its number, its cluster, the bits of x, y and radius, and its ink.
+ * Returns how long it is, at most 4,096, and writes its bytes to text, as many as fit; the rest of text stays. A file that is refused has the text
+ * "refused K\n", K one of 1 to 6, 9, 10, 11, 14. */
 size_t rundhefja_card_text(const uint8_t *input, size_t input_len, uint8_t *text, size_t text_len);
 
 /* ---- boxes and records: these take every double and refuse none */
@@ -185,8 +195,8 @@ rundhefja_overlap rundhefja_bounds_intersection(rundhefja_bounds a, rundhefja_bo
 rundhefja_bounds rundhefja_circle_bounds(rundhefja_circle c);
 rundhefja_bounds rundhefja_rectangle_bounds(rundhefja_rectangle r);
 
-/* The circle of three numbers. A radius below the smallest normal double, 2^-1022, is raised to it; a NaN stays. */
-rundhefja_circle rundhefja_circle_from_params(double x, double y, double radius);
+/* The circle of these numbers. A radius below the smallest normal double, 2^-1022, is raised to it; a NaN stays. */
+rundhefja_circle rundhefja_circle_from_params(double x, double y, double radius, uint16_t ink);
 
 /* ---- the caller's floating-point state */
 

@@ -1,4 +1,4 @@
-/* Lays out a card of four inks and prints where each circle goes. */
+/* Lays out a card of four inks and prints where each circle goes, with the ink's number in the recipe book. */
 #include <stdio.h>
 
 #include "rundhefja.h"
@@ -7,7 +7,8 @@
 
 int main(void) {
     static const char *names[INKS] = {"ocean", "teal", "rust", "sand"};
-    rundhefja_circle inks[INKS] = {{{0, 0}, 20}, {{2, 1}, 5}, {{60, 10}, 15}, {{75, 30}, 12}}; /* millimetres */
+    /* centre and radius in millimetres, and the ink's number */
+    rundhefja_circle inks[INKS] = {{{0, 0}, 20, 4107}, {{2, 1}, 5, 4112}, {{60, 10}, 15, 2215}, {{75, 30}, 12, 2230}};
     /* ocean alone, ocean and teal, rust alone, sand alone, rust and sand */
     const uint64_t masks[] = {1, 3, 4, 8, 12};
     const double areas[] = {1178, 78, 640, 390, 60};
@@ -20,7 +21,7 @@ int main(void) {
     }
     printf("%d groups, %.3f mm apart\n", (int)r.count, r.padding);
     for (i = 0; i < INKS; i++) {
-        printf("%-5s group %d at %8.3f %8.3f radius %g%s\n", names[i], r.numbers[i], inks[i].center.x, inks[i].center.y, inks[i].radius,
+        printf("ink %d, %-5s group %d at %8.3f %8.3f radius %g%s\n", inks[i].ink, names[i], r.numbers[i], inks[i].center.x, inks[i].center.y, inks[i].radius,
                r.moved >> i & 1 ? ", moved off its parent's centre" : "");
     }
     return 0;

@@ -1,4 +1,4 @@
-// Lays out a card of four inks and prints where each circle goes.
+// Lays out a card of four inks and prints where each circle goes, with the ink's number in the recipe book.
 // The library's proofs want round to nearest and subnormals, as every Rust program starts with, unless it is linked with -ffast-math: rundhefja.h has a check.
 #[repr(C)]
 #[derive(Clone, Copy)]
@@ -12,6 +12,7 @@ struct Point {
 struct Circle {
     center: Point,
     radius: f64,
+    ink: u16,
 }
 
 #[repr(C)]
@@ -55,8 +56,9 @@ fn layout(circles: &mut [Circle], factor: f64, masks: &[u64], areas: &[f64]) -> 
 
 fn main() {
     let names = ["ocean", "teal", "rust", "sand"];
-    let circle = |x, y, radius| Circle { center: Point { x, y }, radius };
-    let mut inks = [circle(0.0, 0.0, 20.0), circle(2.0, 1.0, 5.0), circle(60.0, 10.0, 15.0), circle(75.0, 30.0, 12.0)];
+    // centre and radius in millimetres, and the ink's number
+    let circle = |x, y, radius, ink| Circle { center: Point { x, y }, radius, ink };
+    let mut inks = [circle(0.0, 0.0, 20.0, 4107), circle(2.0, 1.0, 5.0, 4112), circle(60.0, 10.0, 15.0, 2215), circle(75.0, 30.0, 12.0, 2230)];
     // ocean alone, ocean and teal, rust alone, sand alone, rust and sand
     let masks = [1, 3, 4, 8, 12];
     let areas = [1178.0, 78.0, 640.0, 390.0, 60.0];
@@ -64,9 +66,9 @@ fn main() {
         Err(refusal) => println!("refused {refusal}"),
         Ok(l) => {
             println!("{} groups, {:.3} mm apart", l.count, l.padding);
-            for (i, ink) in inks.iter().enumerate() {
+            for (i, c) in inks.iter().enumerate() {
                 let moved = if l.moved >> i & 1 == 1 { ", moved off its parent's centre" } else { "" };
-                println!("{:<5} group {} at {:8.3} {:8.3} radius {}{moved}", names[i], l.numbers[i], ink.center.x, ink.center.y, ink.radius);
+                println!("ink {}, {:<5} group {} at {:8.3} {:8.3} radius {}{moved}", c.ink, names[i], l.numbers[i], c.center.x, c.center.y, c.radius);
             }
         }
     }

@@ -1,8 +1,9 @@
-/* Answers the records of tests/oracle through the C interface and prints for each kind how many agree, as program `replay` does for the calls by value. Fails
- * where one differs or is malformed.
+/* Answers the records of tests/oracle through the C interface and prints for each kind how many agree, as program `replay` does for the calls by value, and of
+ * how many circles that were lent to be rewritten the ink is as it was. Fails where one differs or is malformed.
  *
- * A record is a kind byte, a two-byte length and a body: the input, then the answer; all numbers little-endian. What is lent lies between guards. Besides the
- * answers this holds what no contract sees: a guard, what a call only reads, and all that was lent to a call that refuses are as they were, to the byte. */
+ * A record is a kind byte, a two-byte length and a body: the input, then the answer; all numbers little-endian; a circle is x, y, radius and ink, 26 bytes.
+ * What is lent lies between guards. Besides the answers this holds what no contract sees: a guard, what a call only reads, and all that was lent to a call that
+ * refuses are as they were, to the byte. A call that moves circles leaves each its radius and its ink, to the byte as well. */
 #include <inttypes.h>
 #include <stdio.h>
 #include <string.h>
@@ -52,6 +53,7 @@ static rundhefja_circle take_circle(record *r) {
     rundhefja_circle c;
     c.center = take_point(r);
     c.radius = take_double(r);
+    c.ink = take(r, 2);
     return c;
 }
 
@@ -83,11 +85,15 @@ static uint64_t bits(double x) {
 
 static int is_byte(record *r, size_t n) { return take(r, 1) == n; }
 
+static int is_ink(record *r, size_t n) { return take(r, 2) == n; }
+
 static int is_word(record *r, uint64_t n) { return take(r, 8) == n; }
 
 static int is_double(record *r, double x) { return is_word(r, bits(x)); }
 
-static int is_circle(record *r, rundhefja_circle c) { return is_double(r, c.center.x) && is_double(r, c.center.y) && is_double(r, c.radius); }
+static int is_circle(record *r, rundhefja_circle c) {
+    return is_double(r, c.center.x) && is_double(r, c.center.y) && is_double(r, c.radius) && is_ink(r, c.ink);
+}
 
 static int is_rectangle(record *r, rundhefja_rectangle b) {
     return is_double(r, b.center.x) && is_double(r, b.center.y) && is_double(r, b.width) && is_double(r, b.height);
@@ -106,8 +112,8 @@ static int is_grouping(record *r, rundhefja_clusters_result c) {
 
 /* ---- runs that are lent */
 
-/* A guard has room for four circles or three rectangles, and is NaNs. */
-enum { GUARD = 96, ROOM = 65536 };
+/* A guard has room for three circles or rectangles, and is NaNs and inks of 65,535. */
+enum { GUARD = 96, ROOM = 65536, CIRCLE_BYTES = 26 };
 
 typedef struct {
     union {
@@ -129,18 +135,36 @@ static void lend(lent *l, const void *from, size_t size) {
     l->size = size;
 }
 
-/* As `lend`, for doubles. A NaN is lent as a signalling one with digits of its own: no answer looks at them, and only a run that is left alone keeps them. */
-static void lend_doubles(lent *l, const void *from, size_t size) {
-    uint8_t marked[ROOM];
+/* A NaN is lent as a signalling one with digits of its own: no answer looks at them, and only a run that is left alone keeps them. */
+static void mark(uint8_t *bytes, uint64_t digits) {
     uint64_t b;
+    memcpy(&b, bytes, sizeof b);
+    if ((b & ~SIGN) > INFINITE) b = (b & SIGN) + INFINITE + digits + 1;
+    memcpy(bytes, &b, sizeof b);
+}
+
+/* As `lend`, for doubles. */
+static void lend_doubles(lent *l, const void *from, size_t size) {
+    static uint8_t marked[ROOM];
     size_t i;
     memcpy(marked, from, size);
-    for (i = 0; i + sizeof b <= size; i += sizeof b) {
-        memcpy(&b, marked + i, sizeof b);
-        if ((b & ~SIGN) > INFINITE) b = (b & SIGN) + INFINITE + i + 1;
-        memcpy(marked + i, &b, sizeof b);
-    }
+    for (i = 0; i + sizeof(double) <= size; i += sizeof(double)) mark(marked + i, i);
     lend(l, marked, size);
+}
+
+/* As `lend`, for circles of 26 bytes each: x, y, radius, ink. The rest of each record is its place. */
+static void lend_circles(lent *l, const void *from, size_t size) {
+    static uint8_t records[ROOM];
+    const uint8_t *bytes = from;
+    const size_t n = size / CIRCLE_BYTES;
+    size_t i, k;
+    for (i = 0; i < n; i++) {
+        uint8_t *record = records + i * sizeof(rundhefja_circle);
+        memset(record, (int)i, sizeof(rundhefja_circle));
+        memcpy(record, bytes + i * CIRCLE_BYTES, CIRCLE_BYTES);
+        for (k = 0; k < 3; k++) mark(record + k * sizeof(double), 4 * i + k);
+    }
+    lend(l, records, n * sizeof(rundhefja_circle));
 }
 
 /* What a body has next. 0 where it has less. */
@@ -155,6 +179,22 @@ static int lend_next(void (*how)(lent *, const void *, size_t), lent *l, record 
 static int kept(const lent *l, size_t rewritten) {
     const size_t rest = GUARD + rewritten;
     return memcmp(l->now.bytes, l->was, GUARD) == 0 && memcmp(l->now.bytes + rest, l->was + rest, l->size - rewritten + GUARD) == 0;
+}
+
+/* How many circles were lent to be rewritten, and how many of them have the radius and the ink that they were lent with. */
+static unsigned long inks_lent, inks_back;
+
+static int inks_kept(void) {
+    const size_t from = offsetof(rundhefja_circle, radius), to = offsetof(rundhefja_circle, ink) + sizeof(uint16_t);
+    const size_t n = circles.size / sizeof(rundhefja_circle);
+    size_t i, back = 0;
+    for (i = 0; i < n; i++) {
+        const size_t at = GUARD + i * sizeof(rundhefja_circle) + from;
+        back += memcmp(circles.now.bytes + at, circles.was + at, to - from) == 0;
+    }
+    inks_lent += n;
+    inks_back += back;
+    return back == n;
 }
 
 static rundhefja_circle circle_at(size_t i) {
@@ -188,24 +228,27 @@ static int circle_and_point(record *r) {
     return is_byte(r, t.refusal) && is_byte(r, t.value) && ended(r);
 }
 
-/* Two boxes and a radius; the union, whether and what they share, width, height and area, the lifted radius, the boxes of the circle and of the rectangle. */
+/* Two boxes, a radius and an ink; the union, whether and what they share, width, height and area, the lifted radius and the ink, the boxes of the circle and of
+ * the rectangle. */
 static int boxes(record *r) {
     rundhefja_bounds a = take_bounds(r), b = take_bounds(r);
     double radius = take_double(r);
+    uint16_t ink = take(r, 2);
     rundhefja_overlap o = rundhefja_bounds_intersection(a, b);
-    rundhefja_circle c;
+    rundhefja_circle c, lifted = rundhefja_circle_from_params(a.x_min, a.x_max, radius, ink);
     rundhefja_rectangle d;
     c.center.x = a.x_min;
     c.center.y = a.x_max;
     c.radius = radius;
+    c.ink = ink;
     d.center.x = b.x_min;
     d.center.y = b.x_max;
     d.width = b.y_min;
     d.height = b.y_max;
+    if (bits(lifted.center.x) != bits(a.x_min) || bits(lifted.center.y) != bits(a.x_max)) return 0;
     return is_bounds(r, rundhefja_bounds_union(a, b)) && is_byte(r, !o.empty) && is_bounds(r, o.bounds) && is_double(r, rundhefja_bounds_width(a))
-           && is_double(r, rundhefja_bounds_height(a)) && is_double(r, rundhefja_bounds_area(a))
-           && is_double(r, rundhefja_circle_from_params(a.x_min, a.x_max, radius).radius) && is_bounds(r, rundhefja_circle_bounds(c))
-           && is_bounds(r, rundhefja_rectangle_bounds(d)) && ended(r);
+           && is_double(r, rundhefja_bounds_height(a)) && is_double(r, rundhefja_bounds_area(a)) && is_double(r, lifted.radius) && is_ink(r, lifted.ink)
+           && is_bounds(r, rundhefja_circle_bounds(c)) && is_bounds(r, rundhefja_rectangle_bounds(d)) && ended(r);
 }
 
 /* How many rectangles; the refusal, the columns. */
@@ -220,7 +263,7 @@ static int columns(record *r) {
 static int clusters(record *r) {
     size_t n = take(r, 1);
     rundhefja_clusters_result c;
-    if (!lend_next(lend_doubles, &circles, r, n * sizeof(rundhefja_circle))) return 0;
+    if (!lend_next(lend_circles, &circles, r, n * CIRCLE_BYTES)) return 0;
     c = rundhefja_clusters(run(&circles), n);
     return is_grouping(r, c) && ended(r) && kept(&circles, 0);
 }
@@ -256,13 +299,13 @@ static int container(record *r) {
     size_t n = take(r, 1), i;
     rundhefja_rectangle given = take_rectangle(r);
     rundhefja_container_result c;
-    if (!lend_next(lend_doubles, &circles, r, n * sizeof(rundhefja_circle))) return 0;
+    if (!lend_next(lend_circles, &circles, r, n * CIRCLE_BYTES)) return 0;
     c = rundhefja_container(run(&circles), n, given);
     if (!is_byte(r, c.refusal) || !is_rectangle(r, c.container)) return 0;
     for (i = 0; n <= RUNDHEFJA_MAX_CIRCLES && i < n; i++) {
         if (!is_circle(r, circle_at(i))) return 0;
     }
-    return ended(r) && kept(&circles, c.refusal == 0 ? circles.size : 0);
+    return ended(r) && kept(&circles, c.refusal == 0 ? circles.size : 0) && inks_kept();
 }
 
 /* ---- the card file */
@@ -281,7 +324,7 @@ static int field(record *r) {
 typedef struct {
     double factor;
     size_t circles, regions;
-    rundhefja_circle circle[RUNDHEFJA_MAX_CIRCLES + 1];
+    uint8_t circle[RUNDHEFJA_MAX_CIRCLES + 1][CIRCLE_BYTES]; /* the front of a rundhefja_circle */
     uint64_t mask[RUNDHEFJA_MAX_REGIONS + 1];
     double area[RUNDHEFJA_MAX_REGIONS + 1];
 } parts;
@@ -303,7 +346,7 @@ static uint8_t take_apart(parts *p) {
         full = (tag == 2 && p->circles == RUNDHEFJA_MAX_CIRCLES) || (tag == 3 && p->regions == RUNDHEFJA_MAX_REGIONS);
         if (f.refusal != 0 && !full) return f.refusal;
         if (tag == 1) p->factor = f.factor;
-        if (tag == 2) p->circle[p->circles++] = f.circle;
+        if (tag == 2) memcpy(p->circle[p->circles++], &f.circle, CIRCLE_BYTES);
         if (tag == 3) {
             p->mask[p->regions] = f.mask;
             p->area[p->regions++] = f.area;
@@ -322,12 +365,12 @@ static size_t text_of_parts(char *out) {
     size_t i, n = 0;
     rundhefja_layout_result l;
     if (refusal == 0) {
-        lend_doubles(&circles, p.circle, p.circles * sizeof *p.circle);
+        lend_circles(&circles, p.circle, p.circles * CIRCLE_BYTES);
         lend(&masks, p.mask, p.regions * sizeof *p.mask);
         lend_doubles(&areas, p.area, p.regions * sizeof *p.area);
         l = rundhefja_layout(run(&circles), p.circles, p.factor, run(&masks), p.regions, run(&areas), p.regions);
         refusal = l.refusal;
-        if (!kept(&circles, refusal == 0 ? circles.size : 0) || !kept(&masks, 0) || !kept(&areas, 0)) return 0;
+        if (!kept(&circles, refusal == 0 ? circles.size : 0) || !inks_kept() || !kept(&masks, 0) || !kept(&areas, 0)) return 0;
         if (refusal != 0 && (l.count != 0 || l.moved != 0 || bits(l.padding) != 0)) return 0;
         for (i = refusal == 0 ? p.circles : 0; i < RUNDHEFJA_MAX_CIRCLES; i++) {
             if (l.numbers[i] != 0) return 0;
@@ -337,7 +380,8 @@ static size_t text_of_parts(char *out) {
     n += sprintf(out, "circles %zu clusters %zu moved %016" PRIx64 " padding %016" PRIx64 "\n", p.circles, l.count, l.moved, bits(l.padding));
     for (i = 0; i < p.circles; i++) {
         rundhefja_circle c = circle_at(i);
-        n += sprintf(out + n, "%zu %u %016" PRIx64 " %016" PRIx64 " %016" PRIx64 "\n", i, l.numbers[i], bits(c.center.x), bits(c.center.y), bits(c.radius));
+        n += sprintf(out + n, "%zu %u %016" PRIx64 " %016" PRIx64, i, l.numbers[i], bits(c.center.x), bits(c.center.y));
+        n += sprintf(out + n, " %016" PRIx64 " %u\n", bits(c.radius), c.ink);
     }
     return n;
 }
@@ -397,5 +441,7 @@ int main(void) {
         agreed[kind] += kind > 0 && kinds[kind].agrees(&r);
     }
     for (kind = 1; kind < KINDS; kind++) wrong |= print(kind);
-    return wrong | print(0);
+    wrong |= print(0);
+    printf("inks %lu of %lu\n", inks_back, inks_lent);
+    return wrong | (inks_back != inks_lent);
 }

@@ -35,10 +35,11 @@ static rundhefja_point point(double x, double y) {
     return p;
 }
 
-static rundhefja_circle circle(double x, double y, double radius) {
+static rundhefja_circle circle(double x, double y, double radius, uint16_t ink) {
     rundhefja_circle c;
     c.center = point(x, y);
     c.radius = radius;
+    c.ink = ink;
     return c;
 }
 
@@ -59,7 +60,9 @@ static rundhefja_bounds bounds(double x_min, double x_max, double y_min, double 
     return b;
 }
 
-static int is_circle(rundhefja_circle c, double x, double y, double radius) { return c.center.x == x && c.center.y == y && c.radius == radius; }
+static int is_circle(rundhefja_circle c, double x, double y, double radius, uint16_t ink) {
+    return c.center.x == x && c.center.y == y && c.radius == radius && c.ink == ink;
+}
 
 static int is_bounds(rundhefja_bounds b, double x_min, double x_max, double y_min, double y_max) {
     return b.x_min == x_min && b.x_max == x_max && b.y_min == y_min && b.y_max == y_max;
@@ -85,9 +88,10 @@ static void structs(void) {
     SIZE(rundhefja_point, 16);
     PLACE(rundhefja_point, x, 0);
     PLACE(rundhefja_point, y, 8);
-    SIZE(rundhefja_circle, 24);
+    SIZE(rundhefja_circle, 32);
     PLACE(rundhefja_circle, center, 0);
     PLACE(rundhefja_circle, radius, 16);
+    PLACE(rundhefja_circle, ink, 24);
     SIZE(rundhefja_rectangle, 32);
     PLACE(rundhefja_rectangle, center, 0);
     PLACE(rundhefja_rectangle, width, 16);
@@ -125,15 +129,15 @@ static void structs(void) {
     PLACE(rundhefja_layout_result, numbers, 16);
     PLACE(rundhefja_layout_result, moved, 80);
     PLACE(rundhefja_layout_result, padding, 88);
-    SIZE(rundhefja_field_result, 72);
+    SIZE(rundhefja_field_result, 80);
     PLACE(rundhefja_field_result, refusal, 0);
     PLACE(rundhefja_field_result, tag, 1);
     PLACE(rundhefja_field_result, factor, 8);
     PLACE(rundhefja_field_result, circle, 16);
-    PLACE(rundhefja_field_result, mask, 40);
-    PLACE(rundhefja_field_result, area, 48);
-    PLACE(rundhefja_field_result, body_start, 56);
-    PLACE(rundhefja_field_result, body_length, 64);
+    PLACE(rundhefja_field_result, mask, 48);
+    PLACE(rundhefja_field_result, area, 56);
+    PLACE(rundhefja_field_result, body_start, 64);
+    PLACE(rundhefja_field_result, body_length, 72);
     SIZE(rundhefja_overlap, 40);
     PLACE(rundhefja_overlap, empty, 0);
     PLACE(rundhefja_overlap, bounds, 8);
@@ -155,31 +159,31 @@ static void distances(void) {
     check(r.refusal == 0 && r.value == 5, "the distance of two points");
     r = rundhefja_point_distance(point(1, 2), point(1, 2097152));
     check(r.refusal == 3 && is_zero(r.value), "the distance to a point out of range");
-    r = rundhefja_distance(circle(0, 0, 1), circle(6, 8, 2));
+    r = rundhefja_distance(circle(0, 0, 1, 7), circle(6, 8, 2, 8));
     check(r.refusal == 0 && r.value == 7, "the distance of two circles");
-    r = rundhefja_distance(circle(0, 0, 1), circle(1, 1, 2));
+    r = rundhefja_distance(circle(0, 0, 1, 7), circle(1, 1, 2, 7));
     check(r.refusal == 0 && is_zero(r.value), "the distance of two circles that overlap");
-    check(rundhefja_distance(circle(0, 0, 1), circle(6, 8, 0)).refusal == 4, "the distance to a circle of radius 0");
-    check(rundhefja_distance(circle(of(PAYLOAD), 0, 0), circle(6, 8, 1)).refusal == 3, "3 before 4");
+    check(rundhefja_distance(circle(0, 0, 1, 7), circle(6, 8, 0, 7)).refusal == 4, "the distance to a circle of radius 0");
+    check(rundhefja_distance(circle(of(PAYLOAD), 0, 0, 7), circle(6, 8, 1, 7)).refusal == 3, "3 before 4");
 }
 
 static void tests(void) {
-    rundhefja_test r = rundhefja_contains(circle(0, 0, 5), circle(3, 0, 2));
+    rundhefja_test r = rundhefja_contains(circle(0, 0, 5, 7), circle(3, 0, 2, 7));
     check(r.refusal == 0 && r.value, "a circle inside, touching the edge");
-    r = rundhefja_contains(circle(3, 0, 2), circle(0, 0, 5));
+    r = rundhefja_contains(circle(3, 0, 2, 7), circle(0, 0, 5, 7));
     check(r.refusal == 0 && !r.value, "a circle that is not inside");
-    r = rundhefja_contains(circle(0, 0, 5), circle(3, 0, -2));
+    r = rundhefja_contains(circle(0, 0, 5, 7), circle(3, 0, -2, 7));
     check(r.refusal == 4 && !r.value, "a circle of radius -2");
-    r = rundhefja_contains_point(circle(0, 0, 5), point(3, 4));
+    r = rundhefja_contains_point(circle(0, 0, 5, 7), point(3, 4));
     check(r.refusal == 0 && r.value, "a point on the edge");
-    r = rundhefja_contains_point(circle(0, 0, 5), point(4, 4));
+    r = rundhefja_contains_point(circle(0, 0, 5, 7), point(4, 4));
     check(r.refusal == 0 && !r.value, "a point outside");
-    check(rundhefja_contains_point(circle(0, 0, 5), point(4, of(PAYLOAD))).refusal == 3, "a point at a NaN");
-    r = rundhefja_intersects(circle(0, 0, 2), circle(3, 0, 2));
+    check(rundhefja_contains_point(circle(0, 0, 5, 7), point(4, of(PAYLOAD))).refusal == 3, "a point at a NaN");
+    r = rundhefja_intersects(circle(0, 0, 2, 7), circle(3, 0, 2, 7));
     check(r.refusal == 0 && r.value, "edges that cross");
-    r = rundhefja_intersects(circle(0, 0, 2), circle(4, 0, 2));
+    r = rundhefja_intersects(circle(0, 0, 2, 7), circle(4, 0, 2, 7));
     check(r.refusal == 0 && !r.value, "edges that touch");
-    check(rundhefja_intersects(circle(0, 0, 2), circle(4, 0, of(PAYLOAD))).refusal == 4, "a radius that is a NaN");
+    check(rundhefja_intersects(circle(0, 0, 2, 7), circle(4, 0, of(PAYLOAD), 7)).refusal == 4, "a radius that is a NaN");
 }
 
 static void columns(void) {
@@ -195,7 +199,7 @@ static void clusters(void) {
     rundhefja_circle circles[65];
     rundhefja_clusters_result r;
     int i;
-    for (i = 0; i < 65; i++) circles[i] = circle(10 * i, 0, 1);
+    for (i = 0; i < 65; i++) circles[i] = circle(10 * i, 0, 1, i);
     circles[0].radius = 10;
     r = rundhefja_clusters(circles, 4);
     check(r.refusal == 0 && r.count == 3 && r.numbers[0] == 0 && r.numbers[1] == 0 && r.numbers[2] == 1 && r.numbers[3] == 2 && all_zero(r.numbers, 4), "plain clusters");
@@ -246,10 +250,10 @@ static void container(void) {
     rundhefja_circle circles[65], was[65];
     rundhefja_container_result r;
     int i;
-    for (i = 0; i < 65; i++) circles[i] = circle(6, 8, 1);
+    for (i = 0; i < 65; i++) circles[i] = circle(6, 8, 1, 500 + i);
     r = rundhefja_container(circles, 1, rectangle(5, 7, 10, 12));
     check(r.refusal == 0 && r.container.center.x == 0 && r.container.center.y == 0 && r.container.width == 10 && r.container.height == 12, "the container");
-    check(is_circle(circles[0], 0, 0, 1) && is_circle(circles[1], 6, 8, 1), "its circle, and no other");
+    check(is_circle(circles[0], 0, 0, 1, 500) && is_circle(circles[1], 6, 8, 1, 501), "its circle, and no other");
     circles[2].radius = of(PAYLOAD);
     circles[3].center.y = of(PAYLOAD + 1);
     memcpy(was, circles, sizeof was);
@@ -268,28 +272,28 @@ static void layout(void) {
     rundhefja_circle circles[65], was[65];
     rundhefja_layout_result r;
     int i;
-    for (i = 0; i < 65; i++) circles[i] = circle(0, 0, 2);
+    for (i = 0; i < 65; i++) circles[i] = circle(0, 0, 2, 1 + i);
     circles[1].center.y = 3;
     r = rundhefja_layout(circles, 2, 0.5, masks, 3, areas, 3);
     check(r.refusal == 0 && r.count == 1 && r.moved == 0 && is_zero(r.padding) && all_zero(r.numbers, 0), "one cluster");
-    check(is_circle(circles[0], -1.5, 0, 2) && is_circle(circles[1], 1.5, 0, 2) && is_circle(circles[2], 0, 0, 2), "its circles, and no other");
+    check(is_circle(circles[0], -1.5, 0, 2, 1) && is_circle(circles[1], 1.5, 0, 2, 2) && is_circle(circles[2], 0, 0, 2, 3), "its circles, and no other");
     {
         const uint64_t shared[2] = {1, 3};
         const double two[2] = {10, 3};
-        circles[0] = circle(0, 0, 4);
-        circles[1] = circle(0, 0, 1);
+        circles[0] = circle(0, 0, 4, 65535);
+        circles[1] = circle(0, 0, 1, 0);
         r = rundhefja_layout(circles, 2, 0, shared, 2, two, 2);
-        check(r.refusal == 0 && r.moved == 2, "a child that is moved");
+        check(r.refusal == 0 && r.moved == 2 && circles[0].ink == 65535 && circles[1].ink == 0, "a child that is moved, with its ink");
         check(circles[1].center.x - circles[0].center.x > 1.5 - 1e-12 && circles[1].center.x - circles[0].center.x < 1.5 + 1e-12 && circles[1].center.y == circles[0].center.y, "half-way to its parent's edge");
     }
-    circles[0] = circle(0, 0, 1);
-    circles[1] = circle(10, 0, 1);
+    circles[0] = circle(0, 0, 1, 1);
+    circles[1] = circle(10, 0, 1, 2);
     r = rundhefja_layout(circles, 2, 1, masks, 0, areas, 0);
     check(r.refusal == 0 && r.count == 2 && r.numbers[0] == 0 && r.numbers[1] == 1 && all_zero(r.numbers, 2) && bits(r.padding) == 0x4006a09e667f3bcdu, "two clusters, the root of 8 between them");
     check(rundhefja_layout(circles, 0, 1, masks, 0, areas, 0).refusal == 0, "no circles to lay out");
     circles[2].radius = of(PAYLOAD);
     circles[3].center.x = of(PAYLOAD + 1);
-    circles[4] = circle(2097152, 0, 1);
+    circles[4] = circle(2097152, 0, 1, 5);
     memcpy(was, circles, sizeof was);
     r = rundhefja_layout(circles, 3, 0.5, masks, 3, areas, 3);
     check(r.refusal == 4 && r.count == 0 && r.moved == 0 && is_zero(r.padding) && all_zero(r.numbers, 0), "a radius that is a NaN, to lay out");
@@ -301,6 +305,100 @@ static void layout(void) {
     check(rundhefja_layout(circles, 2, 0.5, masks, 2049, areas, 2049).refusal == 2, "2,049 regions to lay out");
     check(rundhefja_layout(circles, 65, 0.5, masks, 3, areas, 3).refusal == 1, "65 circles to lay out");
     check(memcmp(was, circles, sizeof was) == 0, "circles to the byte after a refused layout");
+}
+
+/* ---- inks */
+
+static rundhefja_circle row[65], row_was[65];
+
+/* 65 circles side by side. Inks 1 to 62 differ in their upper byte alone; the first is 0, and the last of 64 is 65,535. */
+static void set_row(void) {
+    int i;
+    for (i = 0; i < 65; i++) row[i] = circle(10 * i, 0, 1, 256 * i + 7);
+    row[0].ink = 0;
+    row[63].ink = 65535;
+}
+
+/* Whether the row has its radii and inks in order, and after a refusal is as it was, to the byte. */
+static int row_kept(uint8_t refusal) {
+    int i;
+    for (i = 0; i < 65; i++) {
+        if (row[i].ink != row_was[i].ink || row[i].radius != row_was[i].radius) return 0;
+    }
+    return refusal == 0 || memcmp(row_was, row, sizeof row) == 0;
+}
+
+static int clusters_give(size_t n, uint8_t refusal) {
+    rundhefja_clusters_result r;
+    memcpy(row_was, row, sizeof row);
+    r = rundhefja_clusters(row, n);
+    return r.refusal == refusal && r.count == (refusal == 0 ? n : 0) && (refusal == 0 || all_zero(r.numbers, 0)) && row_kept(14);
+}
+
+static int container_gives(size_t n, rundhefja_rectangle given, uint8_t refusal) {
+    rundhefja_container_result r;
+    memcpy(row_was, row, sizeof row);
+    r = rundhefja_container(row, n, given);
+    if (r.refusal != refusal || r.container.width != given.width || r.container.height != given.height || !row_kept(refusal)) return 0;
+    return refusal == 0 || (r.container.center.x == given.center.x && r.container.center.y == given.center.y);
+}
+
+/* Each region is circle 0 alone, so that two of them are one too many. */
+static int layout_gives(size_t n, double factor, size_t regions, size_t areas_len, uint8_t refusal) {
+    static uint64_t masks[2049];
+    static double areas[2049];
+    rundhefja_layout_result r;
+    size_t i;
+    for (i = 0; i < 2049; i++) {
+        masks[i] = 1;
+        areas[i] = 1;
+    }
+    memcpy(row_was, row, sizeof row);
+    r = rundhefja_layout(row, n, factor, masks, regions, areas, areas_len);
+    if (r.refusal != refusal || !row_kept(refusal)) return 0;
+    return refusal == 0 ? r.count == n : r.count == 0 && r.moved == 0 && is_zero(r.padding) && all_zero(r.numbers, 0);
+}
+
+/* Whether each call on a run answers so of the first n circles of the row. */
+static int calls_give(size_t n, uint8_t refusal) {
+    return clusters_give(n, refusal) && container_gives(n, rectangle(5, 7, 9000, 9000), refusal) && layout_gives(n, 0.5, 1, 1, refusal);
+}
+
+static void inks(void) {
+    set_row();
+    check(calls_give(64, 0), "64 inks, no two alike");
+    set_row();
+    row[63].ink = row[0].ink;
+    check(calls_give(64, 14), "the last ink as the first");
+    check(calls_give(63, 0), "inks alike, one of them past the run");
+    check(calls_give(1, 0) && calls_give(0, 0), "one circle, and none");
+    check(calls_give(65, 1), "14 after 1");
+    set_row();
+    row[31].ink = row[30].ink;
+    check(calls_give(64, 14) && calls_give(32, 14) && calls_give(31, 0), "neighbours of one ink");
+    set_row();
+    row[1].ink = 65535;
+    check(calls_give(64, 14), "ink 65,535 twice");
+    set_row();
+    row[1].ink = 0;
+    check(calls_give(2, 14), "ink 0 twice");
+    row[1].ink = 256;
+    check(calls_give(2, 0), "inks of one lower byte");
+    row[1].ink = 1;
+    check(calls_give(2, 0), "inks of one upper byte");
+
+    set_row();
+    row[2].ink = row[1].ink;
+    check(container_gives(3, rectangle(5, 7, -1, 9000), 7), "14 after 7");
+    check(container_gives(3, rectangle(2097152, 7, 9000, 9000), 3), "14 after 3, of a container");
+    check(layout_gives(3, 1.5, 1, 1, 6), "14 after 6");
+    check(layout_gives(3, 0.5, 2, 2, 5), "14 after 5");
+    check(layout_gives(3, 0.5, 1, 2, 13), "14 after 13");
+    check(layout_gives(3, 0.5, 2049, 2049, 2), "14 after 2");
+    row[0].radius = 0;
+    check(calls_give(3, 4), "14 after 4");
+    row[1].center.x = of(PAYLOAD);
+    check(calls_give(3, 3), "14 after 3");
 }
 
 /* two circles and no region; see samples/ */
@@ -315,39 +413,49 @@ static size_t sample(const char *name, uint8_t *input, size_t room) {
 }
 
 static int nothing_read(rundhefja_field_result r, uint8_t refusal) {
-    return r.refusal == refusal && r.tag == 0 && is_zero(r.factor) && is_zero(r.circle.center.x) && is_zero(r.circle.center.y) && is_zero(r.circle.radius) && r.mask == 0
-           && is_zero(r.area) && r.body_start == 0 && r.body_length == 0;
+    return r.refusal == refusal && r.tag == 0 && is_zero(r.factor) && is_zero(r.circle.center.x) && is_zero(r.circle.center.y) && is_zero(r.circle.radius) && r.circle.ink == 0
+           && r.mask == 0 && is_zero(r.area) && r.body_start == 0 && r.body_length == 0;
 }
 
 static void field(void) {
     /* a region's field of mask 5 and area 2, behind two other bytes */
     static const uint8_t region[21] = {7, 7, 3, 16, 0, 5, 0, 0, 0, 0, 0, 0, 0, 0, 0, 0, 0, 0, 0, 0, 0x40};
     static const uint8_t factor[11] = {1, 8, 0, 0, 0, 0, 0, 0, 0, 0xe0, 0x3f};
-    static const uint8_t placed[27] = {2, 24, 0, 0, 0, 0, 0, 0, 0, 0xf0, 0x3f, 0, 0, 0, 0, 0, 0, 0, 0x40, 0, 0, 0, 0, 0, 0, 0x08, 0x40};
+    /* the circle (1, 2, 3) of ink 513 */
+    static const uint8_t placed[29] = {2, 26, 0, 0, 0, 0, 0, 0, 0, 0xf0, 0x3f, 0, 0, 0, 0, 0, 0, 0, 0x40, 0, 0, 0, 0, 0, 0, 0x08, 0x40, 1, 2};
     rundhefja_field_result r = rundhefja_field(region, 21, 2);
-    check(r.refusal == 0 && r.tag == 3 && r.mask == 5 && r.area == 2 && r.body_start == 5 && r.body_length == 16 && is_zero(r.factor) && is_zero(r.circle.radius), "a region's field");
+    check(r.refusal == 0 && r.tag == 3 && r.mask == 5 && r.area == 2 && r.body_start == 5 && r.body_length == 16, "a region's field");
+    check(is_zero(r.factor) && is_zero(r.circle.radius) && r.circle.ink == 0, "what a region's field does not have");
     r = rundhefja_field(factor, 11, 0);
     check(r.refusal == 0 && r.tag == 1 && r.factor == 0.5 && r.body_start == 3 && r.body_length == 8 && r.mask == 0 && is_zero(r.area), "a factor's field");
-    r = rundhefja_field(placed, 27, 0);
-    check(r.refusal == 0 && r.tag == 2 && is_circle(r.circle, 1, 2, 3) && r.body_start == 3 && r.body_length == 24 && is_zero(r.factor), "a circle's field");
+    r = rundhefja_field(placed, 29, 0);
+    check(r.refusal == 0 && r.tag == 2 && is_circle(r.circle, 1, 2, 3, 513) && r.body_start == 3 && r.body_length == 26 && is_zero(r.factor), "a circle's field");
+    check(nothing_read(rundhefja_field(placed, 28, 0), 11), "an ink that is cut");
     check(nothing_read(rundhefja_field(region, 20, 2), 11), "a field that is cut");
     check(nothing_read(rundhefja_field(region, 21, 19), 11), "a head that is cut");
     check(nothing_read(rundhefja_field(region, 21, SIZE_MAX), 11), "a place past the end");
     check(nothing_read(rundhefja_field(region, 21, 0), 9), "an unknown tag");
-    check(nothing_read(rundhefja_field(placed + 1, 26, 25), 11) && nothing_read(rundhefja_field(factor, 10, 0), 11), "cut in head and body");
+    check(nothing_read(rundhefja_field(placed + 1, 28, 27), 11) && nothing_read(rundhefja_field(factor, 10, 0), 11), "cut in head and body");
     {
         uint8_t wrong_length[11];
         memcpy(wrong_length, factor, 11);
         wrong_length[2] = 1;
         check(nothing_read(rundhefja_field(wrong_length, 11, 0), 10), "a wrong length");
     }
+    {
+        /* of the length that it had before there were inks */
+        uint8_t without_ink[27];
+        memcpy(without_ink, placed, 27);
+        without_ink[1] = 24;
+        check(nothing_read(rundhefja_field(without_ink, 27, 0), 10), "a circle's field without an ink");
+    }
 }
 
 static void card_text(const char *name) {
     static const char expected[] =
         "circles 2 clusters 2 moved 0000000000000000 padding 0000000000000000\n"
-        "0 0 bff0000000000000 0000000000000000 3ff0000000000000\n"
-        "1 1 3ff0000000000000 0000000000000000 3ff0000000000000\n";
+        "0 0 bff0000000000000 0000000000000000 3ff0000000000000 1\n"
+        "1 1 3ff0000000000000 0000000000000000 3ff0000000000000 2\n";
     static uint8_t long_input[RUNDHEFJA_MAX_INPUT + 1];
     uint8_t input[100], text[RUNDHEFJA_MAX_TEXT];
     size_t n = sample(name, input, sizeof input), length = sizeof expected - 1;
@@ -356,6 +464,8 @@ static void card_text(const char *name) {
     memset(text, 1, sizeof text);
     check(rundhefja_card_text(input, n, text, 10) == length && memcmp(text, expected, 10) == 0 && text[10] == 1, "as much of the text as fits");
     check(rundhefja_card_text(input, n - 1, text, sizeof text) == 11 && memcmp(text, "refused 11\n", 11) == 0, "a card that is cut");
+    if (n == 69) input[67] = 1;
+    check(rundhefja_card_text(input, n, text, sizeof text) == 11 && memcmp(text, "refused 14\n", 11) == 0, "a card with one ink twice");
     check(rundhefja_card_text(input, 0, text, sizeof text) == 10 && memcmp(text, "refused 9\n", 10) == 0, "an empty card");
     check(rundhefja_card_text(long_input, sizeof long_input, text, sizeof text) == 10 && memcmp(text, "refused 2\n", 10) == 0, "an input that is too long");
 }
@@ -372,10 +482,10 @@ static void boxes(void) {
     check(!o.empty && is_bounds(o.bounds, 2, 4, 2, 3), "an intersection");
     o = rundhefja_bounds_intersection(a, far);
     check(o.empty && is_zero(o.bounds.x_min) && is_zero(o.bounds.x_max) && is_zero(o.bounds.y_min) && is_zero(o.bounds.y_max), "boxes that touch");
-    check(is_bounds(rundhefja_circle_bounds(circle(1, 2, 3)), -2, 4, -1, 5), "a circle's box");
+    check(is_bounds(rundhefja_circle_bounds(circle(1, 2, 3, 7)), -2, 4, -1, 5), "a circle's box");
     check(is_bounds(rundhefja_rectangle_bounds(rectangle(1, 2, 4, 6)), -1, 3, -1, 5), "a rectangle's box");
-    check(is_circle(rundhefja_circle_from_params(1, 2, 3), 1, 2, 3), "a circle of three numbers");
-    check(bits(rundhefja_circle_from_params(1, 2, -3).radius) == 0x0010000000000000u, "a radius that is lifted");
+    check(is_circle(rundhefja_circle_from_params(1, 2, 3, 65535), 1, 2, 3, 65535), "a circle of these numbers");
+    check(is_circle(rundhefja_circle_from_params(1, 2, -3, 256), 1, 2, of(0x0010000000000000u), 256), "a radius that is lifted");
 }
 
 int main(int argc, char **argv) {
@@ -389,6 +499,7 @@ int main(int argc, char **argv) {
     pack();
     container();
     layout();
+    inks();
     field();
     card_text(argc > 1 ? argv[1] : "samples/two.card");
     boxes();

@@ -27,6 +27,7 @@ static void fill(void) {
         circles[i].center.x = 7.0 * (i % 8);
         circles[i].center.y = 7.0 * (i / 8);
         circles[i].radius = 3.0 + i % 3;
+        circles[i].ink = 65535 - i;
         boxes[i].width = 1.0 + i % 5;
         boxes[i].height = 1.0 + i % 7;
     }
@@ -55,8 +56,8 @@ static void fill_card(void) {
     put_head(1, 8);
     put(&factor, 8);
     for (i = 0; i < RUNDHEFJA_MAX_CIRCLES; i++) {
-        put_head(2, 24);
-        put(&circles[i], 24);
+        put_head(2, 26);
+        put(&circles[i], 26);
     }
     for (i = 0; i < RUNDHEFJA_MAX_REGIONS; i++) {
         put_head(3, 16);

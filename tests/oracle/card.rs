@@ -1,4 +1,5 @@
-// A card file read as document 01 says ("Card file and program"), and what program `card` prints for it: the layout is the patched Rust's.
+// A card file read as document 01 says ("Card file and program"), with the inks of document 02, 1/14, and what program `card` prints for it: the layout is the
+// patched Rust's, which sees no ink.
 use crate::eunoia::*;
 use std::collections::BTreeMap;
 
@@ -6,24 +7,28 @@ use std::collections::BTreeMap;
 pub struct Card {
     pub factor: f64,
     pub circles: Vec<[f64; 3]>,
+    pub inks: Vec<u16>,
     pub regions: Vec<(u64, f64)>,
 }
 
-// What the card came to: the printed text, the refusal's number, and the steps that the layout took.
+// What the card came to: the printed text, the refusal's number, and the steps that the layout took. The counts are of what was read before a refusal.
 pub struct Outcome {
     pub text: Vec<u8>,
     pub refusal: usize,
     pub circles: usize,
     pub regions: usize,
+    pub same_ink: bool,
     pub seen: Seen,
 }
 
 pub fn outcome(file: &[u8]) -> Outcome {
-    let card = if file.len() > 65536 { Err(2) } else { read(file).and_then(checked) };
-    match card {
-        Ok(card) => laid_out(&card),
-        Err(refusal) => Outcome { text: format!("refused {refusal}\n").into_bytes(), refusal, circles: 0, regions: 0, seen: Seen::default() },
-    }
+    let mut card = Card::default();
+    let read = if file.len() > 65536 { Err(2) } else { read(file, &mut card) };
+    let (text, refusal, seen) = match read.and_then(|()| checked(&card)) {
+        Ok(()) => laid_out(&card),
+        Err(refusal) => (format!("refused {refusal}\n"), refusal, Seen::default()),
+    };
+    Outcome { text: text.into_bytes(), refusal, circles: card.circles.len(), regions: card.regions.len(), same_ink: crate::same_ink(&card.inks), seen }
 }
 
 fn number(bytes: &[u8]) -> u64 {
@@ -43,7 +48,7 @@ pub struct Field {
 
 pub enum Value {
     Factor(f64),
-    Circle([f64; 3]),
+    Circle([f64; 3], u16),
     Region(u64, f64),
 }
 
@@ -55,7 +60,7 @@ pub fn field(file: &[u8], at: usize) -> Result<Field, usize> {
     }
     let length = match left[0] {
         1 => 8,
-        2 => 24,
+        2 => 26,
         3 => 16,
         _ => return Err(9),
     };
@@ -65,18 +70,17 @@ pub fn field(file: &[u8], at: usize) -> Result<Field, usize> {
     let body = left[3..].get(..length).ok_or(11usize)?;
     let value = match left[0] {
         1 => Value::Factor(float(body)),
-        2 => Value::Circle([float(&body[..8]), float(&body[8..16]), float(&body[16..])]),
+        2 => Value::Circle([float(&body[..8]), float(&body[8..16]), float(&body[16..24])], number(&body[24..]) as u16),
         _ => Value::Region(number(&body[..8]), float(&body[8..])),
     };
     Ok(Field { value, start: at + 3, length })
 }
 
 // Checks run front to back: head cut, tag, count, and the field's own. Then come the values.
-fn read(file: &[u8]) -> Result<Card, usize> {
+fn read(file: &[u8], card: &mut Card) -> Result<(), usize> {
     if file.is_empty() {
         return Err(9);
     }
-    let mut card = Card::default();
     let mut at = 0;
     let mut last = 0;
     while at < file.len() {
@@ -102,16 +106,19 @@ fn read(file: &[u8]) -> Result<Card, usize> {
         let field = field(file, at)?;
         match field.value {
             Value::Factor(factor) => card.factor = factor,
-            Value::Circle(circle) => card.circles.push(circle),
+            Value::Circle(circle, ink) => {
+                card.circles.push(circle);
+                card.inks.push(ink);
+            }
             Value::Region(mask, area) => card.regions.push((mask, area)),
         }
         last = tag;
         at = field.start + field.length;
     }
-    Ok(card)
+    Ok(())
 }
 
-fn checked(card: Card) -> Result<Card, usize> {
+fn checked(card: &Card) -> Result<(), usize> {
     let refusal = crate::circles_refusal(&card.circles);
     if refusal != 0 {
         Err(refusal)
@@ -119,8 +126,10 @@ fn checked(card: Card) -> Result<Card, usize> {
         Err(5)
     } else if !(0.0 <= card.factor && card.factor <= 1.0) {
         Err(6)
+    } else if crate::same_ink(&card.inks) {
+        Err(14)
     } else {
-        Ok(card)
+        Ok(())
     }
 }
 
@@ -129,7 +138,7 @@ fn bits(x: f64) -> u64 {
     if x == 0.0 { 0 } else { x.to_bits() }
 }
 
-fn laid_out(card: &Card) -> Outcome {
+fn laid_out(card: &Card) -> (String, usize, Seen) {
     let areas: BTreeMap<usize, f64> = card.regions.iter().map(|(mask, area)| (*mask as usize, *area)).collect();
     let mut shapes: Vec<Circle> = card.circles.iter().map(|c| crate::circle(*c)).collect();
     take_seen();
@@ -143,7 +152,8 @@ fn laid_out(card: &Card) -> Outcome {
     }
     let mut text = format!("circles {} clusters {} moved {:016x} padding {:016x}\n", shapes.len(), seen.clusters.len(), seen.moved, bits(seen.padding));
     for (i, c) in shapes.iter().enumerate() {
-        text += &format!("{i} {} {:016x} {:016x} {:016x}\n", numbers[i], bits(c.center().x()), bits(c.center().y()), bits(c.radius()));
+        let [x, y, radius] = [c.center().x(), c.center().y(), c.radius()].map(bits);
+        text += &format!("{i} {} {x:016x} {y:016x} {radius:016x} {}\n", numbers[i], card.inks[i]);
     }
-    Outcome { text: text.into_bytes(), refusal: 0, circles: shapes.len(), regions: card.regions.len(), seen }
+    (text, 0, seen)
 }

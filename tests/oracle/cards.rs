@@ -1,5 +1,5 @@
 // Inputs of kind 10, whole cards: what the layout distinguishes (touching, equal, nested circles, parents and children by areas, equal boxes, ends of the
-// ranges), and files damaged in every way that document 01 has a number for.
+// ranges), inks of every size, some of them twice, and files damaged in every way that document 01 has a number for.
 use crate::card::{Card, Outcome};
 use crate::{Random, above, below};
 use std::collections::BTreeMap;
@@ -20,9 +20,16 @@ pub fn field(tag: u8, words: &[u64]) -> Field {
     Field { tag, length: body.len(), body }
 }
 
+pub fn circle_field(words: &[u64; 3], ink: u16) -> Field {
+    let mut circle = field(2, words);
+    circle.body.extend_from_slice(&ink.to_le_bytes());
+    circle.length = circle.body.len();
+    circle
+}
+
 fn fields(card: &Card) -> Vec<Field> {
     let mut all = vec![field(1, &[card.factor.to_bits()])];
-    all.extend(card.circles.iter().map(|c| field(2, &c.map(f64::to_bits))));
+    all.extend(card.circles.iter().zip(&card.inks).map(|(c, ink)| circle_field(&c.map(f64::to_bits), *ink)));
     all.extend(card.regions.iter().map(|(mask, area)| field(3, &[*mask, area.to_bits()])));
     all
 }
@@ -54,14 +61,25 @@ pub fn file(random: &mut Random, small: bool) -> Vec<u8> {
     match random.below(12) {
         0 => file.truncate(random.below(file.len() as u64 + 1) as usize),
         1 => file.truncate(file.len().saturating_sub(random.below(4) as usize)),
-        2 => file.extend((0..random.below(4) + 1).map(|_| random.pick(&[0, 1, 2, 3, 8, 16, 24, 255]))),
+        2 => file.extend((0..random.below(4) + 1).map(|_| random.pick(&[0, 1, 2, 3, 8, 16, 24, 26, 255]))),
         _ => {}
     }
     match random.below(60) {
         0 => vec![],
         1 => (0..random.below(60)).map(|_| random.next() as u8).collect(),
+        2 => without_inks(&card),
         _ => file,
     }
+}
+
+// The file of a card whose circles have no ink: their fields are 24 bytes long.
+fn without_inks(card: &Card) -> Vec<u8> {
+    let mut fields = fields(card);
+    for f in fields.iter_mut().filter(|f| f.tag == 2) {
+        f.body.truncate(24);
+        f.length = 24;
+    }
+    bytes(&fields)
 }
 
 // ---- circles and regions
@@ -105,7 +123,8 @@ fn card(random: &mut Random, small: bool) -> Card {
         3 => 0.015,
         _ => random.unit(),
     };
-    Card { factor, circles, regions: areas.into_iter().collect() }
+    let inks = random.inks(circles.len());
+    Card { factor, circles, inks, regions: areas.into_iter().collect() }
 }
 
 fn single(i: usize) -> u64 {
@@ -323,7 +342,7 @@ pub fn damage_shape(random: &mut Random, fields: &mut Vec<Field>) {
         0 => fields[any].tag = random.pick(&[0, 1, 2, 3, 4, 255]),
         1 => {
             let length = fields[any].length;
-            fields[any].length = random.pick(&[0, 8, 16, 24, length + 1, length.saturating_sub(1), length + 256, length ^ 0x8000, 65535]);
+            fields[any].length = random.pick(&[0, 8, 16, 24, 26, length + 1, length.saturating_sub(1), length + 256, length ^ 0x8000, 65535]);
         }
         2 => fields.swap(any, random.pick(&[0, last])),
         3 => {
@@ -332,7 +351,7 @@ pub fn damage_shape(random: &mut Random, fields: &mut Vec<Field>) {
         }
         4 => drop(fields.remove(any)),
         _ => {
-            let length = random.pick(&[0, 7, 8, 9, 15, 17, 23, 25]);
+            let length = random.pick(&[0, 7, 8, 9, 15, 17, 23, 24, 25, 27]);
             fields[any].body.resize(length, 0);
             fields[any].length = length;
         }
@@ -344,12 +363,12 @@ fn places(fields: &[Field], tag: u8, length: usize) -> Vec<usize> {
     (0..fields.len()).filter(|i| fields[*i].tag == tag && fields[*i].body.len() == length).collect()
 }
 
-// Coordinates, radii, masks and the factor.
+// Coordinates, radii, inks, masks and the factor.
 fn damage_value(random: &mut Random, fields: &mut [Field]) {
-    let circles = places(fields, 2, 24);
+    let circles = places(fields, 2, 26);
     let regions = places(fields, 3, 16);
     let factors = places(fields, 1, 8);
-    match random.below(6) {
+    match random.below(7) {
         0 | 1 if !circles.is_empty() => {
             let bad = random.pick(&[above(END), -above(END), f64::NAN, f64::INFINITY, f64::NEG_INFINITY, 1e300]);
             let at = random.below(2) as usize * 8;
@@ -357,9 +376,13 @@ fn damage_value(random: &mut Random, fields: &mut [Field]) {
         }
         2 if !circles.is_empty() => {
             let bad = random.pick(&[above(END), below(LEAST_RADIUS), 0.0, -0.0, -1.0, f64::NAN, f64::INFINITY, 5e-324]);
-            fields[random.pick(&circles)].body[16..].copy_from_slice(&bad.to_le_bytes());
+            fields[random.pick(&circles)].body[16..24].copy_from_slice(&bad.to_le_bytes());
         }
-        3 | 4 if regions.len() > 1 => {
+        3 if circles.len() > 1 => {
+            let ink = fields[random.pick(&circles)].body[24..].to_vec();
+            fields[random.pick(&circles)].body[24..].copy_from_slice(&ink);
+        }
+        4 | 5 if regions.len() > 1 => {
             let i = random.below(regions.len() as u64 - 1) as usize;
             let (one, other) = (regions[i], regions[i + 1]);
             if random.below(2) == 0 {
@@ -379,7 +402,7 @@ fn damage_value(random: &mut Random, fields: &mut [Field]) {
 
 // A 65th circle or a 2,049th region that is also out of place, of a wrong length, cut or of a bad value: the order of the checks decides.
 fn past_a_cap(random: &mut Random) -> Vec<u8> {
-    let mut card = Card { factor: 0.5, circles: vec![[0.0, 0.0, 1.0]; 64], regions: vec![] };
+    let mut card = Card { factor: 0.5, circles: vec![[0.0, 0.0, 1.0]; 64], inks: random.inks(64), regions: vec![] };
     if random.below(4) == 0 {
         card.regions = (0..2048).map(|mask| (mask, 1.0)).collect();
     } else if random.below(3) == 0 {
@@ -389,14 +412,18 @@ fn past_a_cap(random: &mut Random) -> Vec<u8> {
         card.circles[random.below(64) as usize][2] = f64::NAN;
     }
     let mut fields = fields(&card);
-    let mut beyond = if card.regions.len() == 2048 { field(3, &[random.pick(&[0, 5000]), 0]) } else { field(2, &[random.pick(&[0, f64::NAN.to_bits()]), 0, 0]) };
+    let mut beyond = if card.regions.len() == 2048 {
+        field(3, &[random.pick(&[0, 5000]), 0])
+    } else {
+        circle_field(&[random.pick(&[0, f64::NAN.to_bits()]), 0, 0], random.pick(&card.inks))
+    };
     if random.below(2) == 0 {
-        beyond.length = random.pick(&[0, 8, 16, 24, 25, 65535]);
+        beyond.length = random.pick(&[0, 8, 16, 24, 25, 27, 65535]);
     }
     fields.push(beyond);
     let mut file = bytes(&fields);
     if random.below(2) == 0 {
-        file.truncate(file.len() - random.below(27) as usize);
+        file.truncate(file.len() - random.below(30) as usize);
     }
     file
 }
@@ -406,7 +433,8 @@ fn past_a_cap(random: &mut Random) -> Vec<u8> {
 #[derive(Default)]
 pub struct Tally {
     accepted: usize,
-    refused: [usize; 14],
+    refused: [usize; 15],
+    same_ink: [usize; 15],
     moved: usize,
     tried_in_vain: usize,
     turned: usize,
@@ -422,6 +450,7 @@ impl Tally {
     pub fn count(&mut self, outcome: &Outcome) {
         if outcome.refusal != 0 {
             self.refused[outcome.refusal] += 1;
+            self.same_ink[outcome.refusal] += outcome.same_ink as usize;
             return;
         }
         let seen = &outcome.seen;
@@ -439,7 +468,7 @@ impl Tally {
     pub fn print(&self) {
         eprintln!("accepted {}", self.accepted);
         for (number, count) in self.refused.iter().enumerate().filter(|(_, count)| **count > 0) {
-            eprintln!("refused {number}: {count}");
+            eprintln!("refused {number}: {count}, {} of them after two circles of one ink", self.same_ink[number]);
         }
         eprintln!("with a moved circle {}", self.moved);
         eprintln!("with a child left where it was {}", self.tried_in_vain);

@@ -40,7 +40,7 @@ fn file(random: &mut Random, small: bool) -> Vec<u8> {
     match random.below(8) {
         0 | 1 => file.truncate(random.below(file.len() as u64 + 1) as usize),
         2 | 3 => file.truncate(file.len().saturating_sub(1)),
-        4 => file.push(random.pick(&[0, 1, 2, 3, 4, 8, 16, 24, 255])),
+        4 => file.push(random.pick(&[0, 1, 2, 3, 4, 8, 16, 24, 26, 255])),
         _ => {}
     }
     file
@@ -48,8 +48,11 @@ fn file(random: &mut Random, small: bool) -> Vec<u8> {
 
 fn field(random: &mut Random) -> Field {
     let words = [word(random), word(random), word(random)];
-    let (tag, length) = random.pick(&[(1, 1), (2, 3), (3, 2)]);
-    cards::field(tag, &words[..length])
+    match random.below(3) {
+        0 => cards::field(1, &words[..1]),
+        1 => cards::circle_field(&words, random.ink()),
+        _ => cards::field(3, &words[..2]),
+    }
 }
 
 fn word(random: &mut Random) -> u64 {
@@ -63,7 +66,7 @@ fn word(random: &mut Random) -> u64 {
 // One short file in sixteen is read at every place. The others are read at their last fields, which end in what cannot be read, at any place and past the end.
 fn places(random: &mut Random, file: &[u8]) -> Vec<usize> {
     let end = file.len();
-    let past = [end, end + 1, 1 << 32, 1 << 63, usize::MAX - end, usize::MAX - 26, usize::MAX - 3, usize::MAX - 2, usize::MAX - 1, usize::MAX];
+    let past = [end, end + 1, 1 << 32, 1 << 63, usize::MAX - end, usize::MAX - 29, usize::MAX - 28, usize::MAX - 3, usize::MAX - 2, usize::MAX - 1, usize::MAX];
     if end <= 100 && random.below(16) == 0 {
         return (0..end).chain(past).collect();
     }

@@ -5,8 +5,8 @@
 //     oracle files NAME...            a record of kind 10 for each of the card files
 //     oracle text                     what program `card` prints for the card file on standard input
 // A record is a kind byte, a two-byte length and a body: the input, then the answer; all numbers little-endian. Refusals are worked out here from document
-// 01's table, since the Rust asserts or takes what comes; so are the fields of kind 11, as the Rust has no card file. Either zero is written as 0, and every NaN
-// as one.
+// 01's table, since the Rust asserts or takes what comes; so are the fields of kind 11, as the Rust has no card file. The Rust sees circles without their inks:
+// those that come back are those handed in, and two equal ones of a list are refused with 14, after all else. Either zero is written as 0, and every NaN as one.
 #[path = "../../target/oracle/eunoia.rs"]
 mod eunoia;
 mod card;
@@ -14,7 +14,7 @@ mod cards;
 mod fields;
 
 use eunoia::*;
-use std::collections::BTreeMap;
+use std::collections::{BTreeMap, BTreeSet};
 use std::io::{Read, Write};
 
 struct Random(u64);
@@ -86,6 +86,60 @@ impl Random {
             _ => self.circle(wild),
         }
     }
+    // Any ink number, and often one next to an end of a byte.
+    fn ink(&mut self) -> u16 {
+        match self.below(4) {
+            0 => self.pick(&[0, 1, 255, 256, 32767, 32768, 65534, 65535]),
+            _ => self.next() as u16,
+        }
+    }
+    // Inks for n circles, all different but for one list in six. Some differ in one byte alone; 0 and 65,535 are among many.
+    fn inks(&mut self, n: usize) -> Vec<u16> {
+        let any = self.ink();
+        let mut inks: Vec<u16> = match self.below(5) {
+            0 => (0..n).map(|i| i as u16 + 1).collect(),
+            1 => (0..n).map(|i| any.wrapping_sub(i as u16)).collect(),
+            2 => (0..n).map(|i| any.wrapping_add(256 * i as u16)).collect(),
+            _ => self.different_inks(n),
+        };
+        for end in [0, 65535] {
+            if n > 0 && self.below(3) == 0 && !inks.contains(&end) {
+                inks[self.below(n as u64) as usize] = end;
+            }
+        }
+        if n > 1 && self.below(6) == 0 {
+            self.repeat_an_ink(&mut inks);
+        }
+        inks
+    }
+    fn different_inks(&mut self, n: usize) -> Vec<u16> {
+        let mut inks = Vec::new();
+        while inks.len() < n {
+            let ink = self.ink();
+            if !inks.contains(&ink) {
+                inks.push(ink);
+            }
+        }
+        inks
+    }
+    // Two circles get one ink: mostly the last and another one, or two neighbours; now and then all do.
+    fn repeat_an_ink(&mut self, inks: &mut [u16]) {
+        let last = inks.len() - 1;
+        let any = 1 + self.below(last as u64) as usize;
+        let (one, other) = match self.below(8) {
+            0 | 1 => (self.below(last as u64) as usize, last),
+            2 => (0, last),
+            3 => (last - 1, last),
+            4 => (0, 1),
+            5 => (any - 1, any),
+            6 => return inks.fill(inks[0]),
+            _ => (self.below(any as u64) as usize, any),
+        };
+        if self.below(4) == 0 {
+            inks[one] = self.pick(&[0, 65535]);
+        }
+        inks[other] = inks[one];
+    }
     fn area(&mut self) -> f64 {
         match self.below(12) {
             0 => f64::NAN,
@@ -156,6 +210,19 @@ impl Record {
     fn result(&mut self, x: f64) {
         self.word(if x == 0.0 { 0 } else if x.is_nan() { 0x7ff8_0000_0000_0000 } else { x.to_bits() });
     }
+    // A circle that is handed in, and one that comes back.
+    fn circle(&mut self, c: [f64; 3], ink: u16) {
+        for x in c {
+            self.float(x);
+        }
+        self.short(ink as usize);
+    }
+    fn placed(&mut self, c: [f64; 3], ink: u16) {
+        for x in c {
+            self.result(x);
+        }
+        self.short(ink as usize);
+    }
     fn bounds(&mut self, b: Bounds) {
         for x in [b.x_min, b.x_max, b.y_min, b.y_max] {
             self.result(x);
@@ -200,6 +267,11 @@ fn circles_refusal(circles: &[[f64; 3]]) -> usize {
     }
 }
 
+// Whether two of a list have one ink. It is looked for after every other check.
+fn same_ink(inks: &[u16]) -> bool {
+    inks.iter().collect::<BTreeSet<_>>().len() < inks.len()
+}
+
 fn grouped(record: &mut Record, refusal: usize, clusters: Vec<Vec<usize>>) {
     let mut numbers = [0u8; 64];
     let mut count = 0;
@@ -234,9 +306,10 @@ fn pair_record(random: &mut Random, record: &mut Record) {
     let wild = random.pick(&[0, 6, 24]);
     let a = random.circle(wild);
     let b = random.beside(a, wild);
-    for x in [a, b].concat() {
-        record.float(x);
-    }
+    // two circles are no list: equal inks are no cause
+    let ink = random.ink();
+    record.circle(a, ink);
+    record.circle(b, if random.below(2) == 0 { ink } else { random.ink() });
     let refusal = circles_refusal(&[a, b]);
     record.byte(refusal);
     let (ca, cb) = (circle(a), circle(b));
@@ -254,7 +327,8 @@ fn point_record(random: &mut Random, record: &mut Record) {
         2 => [c[0], c[1]],
         _ => [random.coordinate(wild), random.coordinate(wild)],
     };
-    for x in [c[0], c[1], c[2], p[0], p[1]] {
+    record.circle(c, random.ink());
+    for x in p {
         record.float(x);
     }
     let refusal = if bad_point(p) { 3 } else { circles_refusal(&[c]) };
@@ -280,13 +354,15 @@ fn some_circles(random: &mut Random) -> Vec<[f64; 3]> {
 
 fn circles_record(random: &mut Random, record: &mut Record) {
     let circles = some_circles(random);
+    let inks = random.inks(circles.len());
     record.byte(circles.len());
-    for c in &circles {
-        for x in c {
-            record.float(*x);
-        }
+    for (c, ink) in circles.iter().zip(&inks) {
+        record.circle(*c, *ink);
     }
-    let refusal = circles_refusal(&circles);
+    let refusal = match circles_refusal(&circles) {
+        0 if same_ink(&inks) => 14,
+        number => number,
+    };
     let shapes: Vec<Circle> = circles.iter().map(|c| circle(*c)).collect();
     grouped(record, refusal, if refusal == 0 { find_clusters(&shapes) } else { vec![] });
 }
@@ -333,9 +409,11 @@ fn areas_record(random: &mut Random, record: &mut Record) {
 
 fn boxes_record(random: &mut Random, record: &mut Record) {
     let f: Vec<f64> = (0..9).map(|_| random.any()).collect();
+    let ink = random.ink();
     for x in &f {
         record.float(*x);
     }
+    record.short(ink as usize);
     let a = Bounds::new(f[0], f[1], f[2], f[3]);
     let b = Bounds::new(f[4], f[5], f[6], f[7]);
     record.bounds(a.union(&b));
@@ -354,6 +432,7 @@ fn boxes_record(random: &mut Random, record: &mut Record) {
     }
     let lifted = Circle::from_params(&[f[0], f[1], f[8]]);
     record.result(lifted.radius());
+    record.short(ink as usize);
     record.bounds(circle([f[0], f[1], f[8]]).bounds());
     record.bounds(Rectangle::new(Point::new(f[4], f[5]), f[6], f[7]).bounds());
 }
@@ -425,7 +504,8 @@ fn pack_record(random: &mut Random, record: &mut Record) {
 
 fn container_record(random: &mut Random, record: &mut Record) {
     let circles: Vec<[f64; 3]> = some_circles(random);
-    let wild = random.pick(&[0, 0, 20]);
+    let inks = random.inks(circles.len());
+    let wild = random.pick(&[0, 0, 6]);
     let tight = random.below(2) == 0;
     let spread = circles.iter().fold(0.0f64, |m, c| m.keep_max(c[0].abs() + c[2]).keep_max(c[1].abs() + c[2]));
     let mut container = [random.coordinate(wild), random.coordinate(wild), random.side(wild), random.side(wild)];
@@ -441,10 +521,8 @@ fn container_record(random: &mut Random, record: &mut Record) {
     for x in container {
         record.float(x);
     }
-    for c in &circles {
-        for x in c {
-            record.float(*x);
-        }
+    for (c, ink) in circles.iter().zip(&inks) {
+        record.circle(*c, *ink);
     }
     let refusal = match circles_refusal(&circles) {
         1 => 1,
@@ -452,6 +530,7 @@ fn container_record(random: &mut Random, record: &mut Record) {
         _ if bad_point([container[0], container[1]]) => 3,
         4 => 4,
         _ if bad_side(container[2]) || bad_side(container[3]) => 7,
+        _ if same_ink(&inks) => 14,
         _ => 0,
     };
     record.byte(refusal);
@@ -464,10 +543,8 @@ fn container_record(random: &mut Random, record: &mut Record) {
         record.result(x);
     }
     if circles.len() <= 64 {
-        for c in &shapes {
-            for x in [c.center().x(), c.center().y(), c.radius()] {
-                record.result(x);
-            }
+        for (c, ink) in shapes.iter().zip(&inks) {
+            record.placed([c.center().x(), c.center().y(), c.radius()], *ink);
         }
     }
 }
@@ -483,14 +560,14 @@ fn card_record(file: &[u8], record: &mut Record) -> card::Outcome {
 
 // The length of the file, the place, the file; the refusal, the tag, the factor, the circle, the mask and the area, where the body starts and how long it is.
 fn field_record(file: &[u8], at: usize, record: &mut Record) {
-    let (mut refusal, mut tag, mut factor, mut circle, mut region, mut start, mut length) = (0, 0, 0.0, [0.0; 3], (0, 0.0), 0, 0);
+    let (mut refusal, mut tag, mut factor, mut circle, mut ink, mut region, mut start, mut length) = (0, 0, 0.0, [0.0; 3], 0, (0, 0.0), 0, 0);
     match card::field(file, at) {
         Err(number) => refusal = number,
         Ok(field) => {
             (start, length) = (field.start, field.length);
             match field.value {
                 card::Value::Factor(read) => (tag, factor) = (1, read),
-                card::Value::Circle(read) => (tag, circle) = (2, read),
+                card::Value::Circle(read, number) => (tag, circle, ink) = (2, read, number),
                 card::Value::Region(mask, area) => (tag, region) = (3, (mask, area)),
             }
         }
@@ -500,9 +577,8 @@ fn field_record(file: &[u8], at: usize, record: &mut Record) {
     record.0.extend_from_slice(file);
     record.byte(refusal);
     record.byte(tag);
-    for x in [factor, circle[0], circle[1], circle[2]] {
-        record.result(x);
-    }
+    record.result(factor);
+    record.placed(circle, ink);
     record.word(region.0);
     record.result(region.1);
     record.word(start as u64);

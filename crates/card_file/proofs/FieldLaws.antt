@@ -1,23 +1,16 @@
 -- What the checks of a field say of the bytes at its place, and what the answer of a refused call is.
-use Prim.Native.Nat.{ℕ, _+_, _*_, _≤_}
+use Prim.Native.Nat.{ℕ, _+_, _≤_}
 use native.Mathlib.Omega.{arith}
-use mathlib.Core.Path.{_≡_, refl}
+use mathlib.Core.Path.{_≡_}
 use mathlib.Core.Bool.{false}
-use mathlib.Core.List.{List, [], _∷_}
-use lib.ListN.{length, getD, drop, length-drop}
+use mathlib.Core.List.{List}
+use lib.ListN.{length, drop, length-drop}
 use borrow.Author.Tests.{ltb-false}
 use Rattle.scope.specs.Refusals.{refused, given, answer}
-use Rattle.scope.specs.CardFile.{littleEndian, tag, bodyLength, headLength, bodyCut, statedLength, fieldRefusal}
+use Rattle.scope.specs.CardFile.{tag, bodyLength, headLength, bodyCut, fieldRefusal}
 use Rattle.laws.proofs.Cases.{is-false}
 use Rattle.laws.proofs.EntryPoints.{field-reads}
 use Rattle.laws.proofs.AfterRefusal.{answer-answers}
-
-pub stated-is : (l : List ℕ) → statedLength l ≡ getD l 1 0 + 256 * getD l 2 0
-unfolding statedLength littleEndian
-stated-is [] = refl
-stated-is (a ∷ []) = refl
-stated-is (a ∷ b ∷ []) = refl
-stated-is (a ∷ b ∷ c ∷ l) = omega arith
 
 -- a body that is not cut lies in the file
 pub body-inside : (l : List ℕ) (at : ℕ) → bodyCut (drop at l) ≡ false → at + headLength + bodyLength (tag (drop at l)) ≤ length l

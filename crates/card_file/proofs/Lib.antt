@@ -1,4 +1,4 @@
-pub mod EightBytes
+pub mod FromBytes
 pub mod FieldLaws
 pub mod Filling
 pub mod Reading
@@ -6,4 +6,5 @@ pub mod Values
 pub mod Digits
 pub mod Putting
 pub mod Printing
+pub mod ClusterNumbers
 pub mod Texts

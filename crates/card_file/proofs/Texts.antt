@@ -16,8 +16,9 @@ use Rattle.scope.specs.CardFile.{readCard}
 use Rattle.scope.specs.Print.{printed, refusedText, answerText, cardText}
 use Rattle.scope.specs.Twins.{firstLayout}
 use Rattle.layout.proofs.Lengths.{layout-length}
-use Rattle.card_file.specs.Texts.{layoutOf}
+use Rattle.card_file.specs.Texts.{NoneAbove, layoutOf}
 use Rattle.card_file.specs.Answers.{ReadCard}
+use Rattle.card_file.proofs.ClusterNumbers.{layout-numbers}
 
 -- ---- the layout's text is that of its first n circles
 
@@ -36,6 +37,12 @@ module _ (n : ℕ) (cs : List Circle) (factor : Float) (masks : List ℕ) (areas
       let inside : n ≤ length cs = omega arith in
       let long : length (laid .circles) ≡ n = layout-length (take n cs) factor masks areas ∙ length-take-le n cs inside in
       rw (e, not-too-many n few, take-at (laid .circles) (drop n cs) n long)
+
+  pub laid-out-fits : (l : Layout) → l ≡ firstLayout n cs factor masks areas → (l .result .count ≤ n) × NoneAbove n (l .result .numbers)
+  unfolding firstLayout
+  laid-out-fits l e =
+      let inside : n ≤ length cs = omega arith in
+      rw (e, not-too-many n few) (rw (length-take-le n cs inside) at (layout-numbers (take n cs) factor masks areas))
 
 -- ---- which text it is
 

@@ -1,18 +1,17 @@
 -- The values of a card: what is refused of them, from the words of its checks; and the answer of a card that was read.
 use Prim.Native.Nat.{ℕ}
 use mathlib.Core.Path.{_≡_}
-use mathlib.Core.Bool.{not, cond}
-use mathlib.Core.List.{List, [], _∷_}
-use lib.ListN.{length, take}
+use mathlib.Core.List.{List, [], _∷_, _++_}
+use lib.ListN.{take}
 use lib.Ieee.{Float}
 use borrow.Author.Tests.{le-ltb}
 use Rattle.shapes.specs.declared.circle.Circle.{Circle}
 use Rattle.scope.specs.Limits.{circleCap}
-use Rattle.scope.specs.Runs.{any}
-use Rattle.scope.specs.Refusals.{Answer, answer, refusal, tooMany, unequal, tooManyRegions, badCentre, badRadius, rising, badFactor, layoutRefusal}
+use Rattle.scope.specs.Refusals.{Answer, answer, refusal, tooMany, badFactor, inks, layoutRefusal}
 use Rattle.scope.specs.CardFile.{valued}
-use Rattle.intake.specs.Columns.{xsOf, ysOf, radiiOf, overwritten}
-use Rattle.intake.specs.CauseWords.{front}
+use Rattle.intake.specs.Columns.{xsOf, ysOf, radiiOf}
+use Rattle.intake.specs.Splits.{loaded}
+use Rattle.intake.specs.CauseWords.{front, circleChecks, regionChecks}
 use Rattle.intake.proofs.CauseWords.{layout-checks}
 use Rattle.intake.proofs.Splitting.{front-shown}
 use Rattle.card_file.specs.declared.cards.Card.{Card}
@@ -21,8 +20,8 @@ use Rattle.card_file.specs.Unused.{RestIsBlank}
 use Rattle.card_file.proofs.FieldLaws.{refused-answer}
 use Rattle.card_file.proofs.Filling.{used-length}
 
--- ---- what is refused of a card whose circles were split into three arrays
-module _ (r : Card) (u : RestIsBlank r) (xs ys rs : List Float) where
+-- ---- what is refused of a card whose circles were split into four arrays
+module _ (r : Card) (u : RestIsBlank r) (xs ys rs : List Float) (is : List ℕ) where
   abbrev circles : List Circle
   circles = take (r .n) (r .circles)
 
@@ -33,20 +32,19 @@ module _ (r : Card) (u : RestIsBlank r) (xs ys rs : List Float) where
   areas = take (r .m) (r .areas)
 
   -- an array after the split
-  abbrev column : (List Circle → List Float) → List Float → List Float
-  column f zs = cond (tooMany (r .n)) zs (overwritten (f circles) zs)
+  abbrev column : {A : Type 0} → (List Circle → List A) → List A → List A
+  column f zs = loaded (r .n) (f circles) zs
 
   -- there was room for them, so they come back out
-  shown-again : front (r .n) (column xsOf xs) (column ysOf ys) (column radiiOf rs) ≡ circles
+  shown-again : front (r .n) (column xsOf xs) (column ysOf ys) (column radiiOf rs) (column inks is) ≡ circles
   unfolding tooMany circleCap
-  shown-again = rw (le-ltb 64 (r .n) (u .circles .fits)) (front-shown (r .n) circles xs ys rs (used-length (u .circles)))
+  shown-again = rw (le-ltb 64 (r .n) (u .circles .fits)) (front-shown (r .n) circles xs ys rs is (used-length (u .circles)))
 
   pub card-values :
-      refusal ((1, tooMany (r .n)) ∷ (3, any badCentre (front (r .n) (column xsOf xs) (column ysOf ys) (column radiiOf rs))) ∷ (4, any badRadius (front (r .n) (column xsOf xs) (column ysOf ys) (column radiiOf rs)))
-      ∷ (13, unequal masks areas) ∷ (2, tooManyRegions (length masks)) ∷ (5, not (rising masks)) ∷ (6, badFactor (r .factor)) ∷ [])
+      refusal (circleChecks (r .n) (column xsOf xs) (column ysOf ys) (column radiiOf rs) (column inks is) ++ regionChecks masks areas ++ (6, badFactor (r .factor)) ∷ [])
       ≡ layoutRefusal circles (r .factor) masks areas
   unfolding layoutRefusal
-  card-values = rw (shown-again, used-length (u .circles)) (layout-checks _ _ _ _ _ _ _)
+  card-values = rw (shown-again, used-length (u .circles)) (layout-checks _ _ _ _ _ _ _ _)
 
 -- ---- the answer of a card that was read
 

@@ -1,5 +1,5 @@
 -- A text in a buffer of bytes, and what it is to put more behind it.
-use Prim.Native.Nat.{ℕ, _+_, _≤_}
+use Prim.Native.Nat.{ℕ, _+_, _*_, _-_, _≤_, _<_}
 use mathlib.Core.Path.{_≡_}
 use mathlib.Core.List.{List, [], _++_}
 use lib.ListN.{length, getD, take}
@@ -27,9 +27,17 @@ pub record Put (bytes : List ℕ) (at : ℕ) (before : List ℕ) (next : ℕ) (a
   pub place : next ≡ at + length bytes
   pub holds : (text : List ℕ) → Holds text at before → Holds (text ++ bytes) next after
 
+-- clusters are numbered by smallest member, so that no circle's cluster has a number above the circle's
+abbrev pub NoneAbove : ℕ → List ℕ → Type 0
+NoneAbove n numbers = (i : ℕ) → i < n → getD numbers i 0 ≤ i
+
 -- the lines of the first i circles, as `printed` runs through them
 abbrev pub linesOf : List Circle → List ℕ → ℕ → List ℕ
 linesOf circles numbers i = inTurn i (λ i text. text ++ line i (getD numbers i 0) (circle circles i)) []
+
+-- how long they are at most: of the first ten circles, circle and cluster have one digit, and from there on at most two
+abbrev pub linesRoom : ℕ → ℕ
+linesRoom i = 61 * i + 2 * (i - 10)
 
 -- an accepted layout of the first n circles
 abbrev pub layoutOf : List Circle → ℕ → ℕ → List ℕ → ℕ → Float → Layout

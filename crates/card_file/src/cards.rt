@@ -43,7 +43,7 @@ pub struct Card {
 }
 
 // The card of a whole file. Refused, front to back: a field cut short (11), a tag unknown or out of place (9), the 65th circle (1) or
-// the 2,049th region (2), a wrong length (10); then a centre (3), a radius (4), masks that do not rise (5), the factor (6).
+// the 2,049th region (2), a wrong length (10); then a centre (3), a radius (4), masks that do not rise (5), the factor (6), two circles of one ink (14).
 pub fn read_card(file: &[u8]) -> Card
     ensures answer { λ r. ⌜ cardAnswer r ≡ readCard (now (file .entry)) ⌝ }
     ensures rest { λ r. ⌜ RestIsBlank r ⌝ }
@@ -209,12 +209,13 @@ fn value_refusal(card: Card) -> u8
     let mut xs = [0.0f64; MAX_CIRCLES];
     let mut ys = [0.0f64; MAX_CIRCLES];
     let mut radii = [0.0f64; MAX_CIRCLES];
-    split_array(circles, n, &mut xs, &mut ys, &mut radii);
+    let mut inks = [0u16; MAX_CIRCLES];
+    split_array(circles, n, &mut xs, &mut ys, &mut radii, &mut inks);
     let m = card.m;
     let masks = card.masks;
     let areas = card.areas;
     number_of(
-        of_circles(&xs, &ys, &radii, n)
+        of_circles(&xs, &ys, &radii, &inks, n)
             | of_regions(&masks[..m], &areas[..m])
             | of_factor(card.factor),
     )

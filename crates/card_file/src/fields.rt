@@ -22,6 +22,7 @@ ghost use Rattle.scope.specs.CardFile.{
 ghost use Rattle.card_file.specs.Answers.{fieldAnswer};
 ghost use Rattle.card_file.specs.Parts.{StartsAt, bodyPlace};
 use crate::words::byte_at;
+use crate::words::short_at;
 use crate::words::word_at;
 use bits::float_of;
 use shapes::circle::Circle;
@@ -92,18 +93,18 @@ pub(crate) fn tag_at(file: &[u8], at: usize) -> u64
 fn stated_length(file: &[u8], at: usize) -> u64
     ensures { λ r. ⌜ r ≡ statedLength (drop at (now (file .entry))) ⌝ }
 {
-    byte_at(file, at, 1) + 256 * byte_at(file, at, 2)
+    short_at(file, at, 1) as u64
 }
 
 // How long the body has to be. A tag that is unknown has none.
 pub(crate) fn body_length(tag: u64) -> u64
-    ensures { λ r. ⌜ (r ≡ bodyLength tag) × (r ≤ 24) ⌝ }
+    ensures { λ r. ⌜ (r ≡ bodyLength tag) × (r ≤ 26) ⌝ }
 {
     if tag == 1 {
         return 8;
     }
     if tag == 2 {
-        return 24;
+        return 26;
     }
     if tag == 3 {
         return 16;
@@ -121,16 +122,18 @@ pub(crate) fn body_at<'a>(file: &'a [u8], at: usize) -> &'a [u8]
     &file[start..end]
 }
 
-// A circle's body: x, y, radius.
+// A circle's body: x, y, radius, ink.
 pub(crate) fn circle_of(body: &[u8]) -> Circle
     ensures { λ r. ⌜ r ≡ circleFrom (now (body .entry)) ⌝ }
 {
     let x = float_of(word_at(body, 0));
     let y = float_of(word_at(body, 8));
     let radius = float_of(word_at(body, 16));
+    let ink = short_at(body, 0, 24);
     Circle {
         center: Point { x, y },
         radius,
+        ink,
     }
 }
 

@@ -18,7 +18,7 @@ use layout::normalize::normalize_layout_with_clusters_by_value;
 // A longer input is refused (2), before anything is read as a field.
 pub const MAX_INPUT: usize = 65536;
 
-// 64 lines of at most 59 bytes, and a first line of at most 107.
+// A first line of at most 77 bytes, ten of at most 61, whose circle and cluster have one digit, and 54 of at most 63.
 pub const MAX_TEXT: usize = 4096;
 
 // The text is the first `length` bytes, and the rest is 0.

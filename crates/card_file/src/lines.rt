@@ -6,7 +6,7 @@ ghost use lib.ListN.{length};
 ghost use Rattle.scope.specs.Text.{bytes};
 ghost use Rattle.scope.specs.Print.{decimal, hexDigit, sixteenDigits, float, line, printed, refusedText};
 ghost use Rattle.intake.specs.Limits.{maxCircles};
-ghost use Rattle.card_file.specs.Texts.{maxText, IsText, Put, linesOf, layoutOf};
+ghost use Rattle.card_file.specs.Texts.{maxText, IsText, Put, NoneAbove, linesOf, linesRoom, layoutOf};
 use crate::MAX_TEXT;
 use crate::Text;
 use bits::bits_of;
@@ -32,7 +32,7 @@ pub(crate) fn printed(
     moved: u64,
     padding: f64,
 ) -> Text
-    requires { ⌜ n ≤ maxCircles ⌝ }
+    requires { ⌜ (n ≤ maxCircles) × (count ≤ n) × NoneAbove n numbers ⌝ }
     ensures { λ r. ⌜ IsText (printed (layoutOf circles n count numbers moved padding)) (r .length) (r .bytes) ⌝ }
 {
     let mut bytes = [0u8; MAX_TEXT];
@@ -47,17 +47,18 @@ pub(crate) fn printed(
 
 // ---- lines
 
-// Circle, cluster, x, y, radius.
+// Circle, cluster, x, y, radius, ink.
 fn put_line(out: &mut [u8; MAX_TEXT], at: usize, i: usize, cluster: u8, c: Circle) -> usize
-    requires { ⌜ (i < maxCircles) × (at + 59 ≤ maxText) ⌝ }
-    ensures { λ r. ⌜ Put (line i cluster c) at (now (out .entry)) r (now (out .exit)) × (r ≤ at + 59) ⌝ }
+    requires { ⌜ (i < maxCircles) × (cluster ≤ i) × (at + 63 ≤ maxText) ⌝ }
+    ensures { λ r. ⌜ Put (line i cluster c) at (now (out .entry)) r (now (out .exit)) × (r ≤ at + 63) × (i < 10 → r ≤ at + 61) ⌝ }
 {
     let center = c.center;
     let numbers_end = put_pair(out, at, i as u64, cluster as u64);
     let x_end = put_float(out, numbers_end, center.x);
     let y_end = put_float(out, x_end, center.y);
     let radius_end = put_float(out, y_end, c.radius);
-    put_byte(out, radius_end, b'\n')
+    let ink_end = put_count(out, radius_end, b" ", c.ink as u64);
+    put_byte(out, ink_end, b'\n')
 }
 
 fn put_lines(
@@ -67,8 +68,8 @@ fn put_lines(
     n: usize,
     numbers: [u8; MAX_CIRCLES],
 ) -> usize
-    requires { ⌜ (n ≤ maxCircles) × (at + 64 * 59 ≤ maxText) ⌝ }
-    ensures { λ r. ⌜ Put (linesOf circles numbers n) at (now (out .entry)) r (now (out .exit)) × (r ≤ at + 64 * 59) ⌝ }
+    requires { ⌜ (n ≤ maxCircles) × NoneAbove n numbers × (at + linesRoom maxCircles ≤ maxText) ⌝ }
+    ensures { λ r. ⌜ Put (linesOf circles numbers n) at (now (out .entry)) r (now (out .exit)) × (r ≤ at + linesRoom maxCircles) ⌝ }
 {
     let mut next = at;
     let mut i: usize = 0;
@@ -82,10 +83,10 @@ fn put_lines(
 
 // ---- parts of a line
 
-// A word and a number in decimal, of at most 20 digits.
+// A word and a number in decimal, of at most 5 digits.
 fn put_count(out: &mut [u8; MAX_TEXT], at: usize, word: &[u8], n: u64) -> usize
-    requires { ⌜ at + length (now word) + 20 ≤ maxText ⌝ }
-    ensures { λ r. ⌜ Put (now (word .entry) ++ decimal n) at (now (out .entry)) r (now (out .exit)) × (r ≤ at + length (now (word .entry)) + 20) ⌝ }
+    requires { ⌜ (n < 100000) × (at + length (now word) + 5 ≤ maxText) ⌝ }
+    ensures { λ r. ⌜ Put (now (word .entry) ++ decimal n) at (now (out .entry)) r (now (out .exit)) × (r ≤ at + length (now (word .entry)) + 5) ⌝ }
 {
     let next = put_bytes(out, at, word);
     put_decimal(out, next, n)
@@ -108,10 +109,10 @@ fn put_float(out: &mut [u8; MAX_TEXT], at: usize, x: f64) -> usize
     put_digits(out, at, b" ", bits_of(x))
 }
 
-// Two numbers of at most 3 digits each, with a space between them.
+// Two numbers of at most 2 digits each, the second not above the first, with a space between them.
 fn put_pair(out: &mut [u8; MAX_TEXT], at: usize, a: u64, b: u64) -> usize
-    requires { ⌜ (a < 256) × (b < 256) × (at + 7 ≤ maxText) ⌝ }
-    ensures { λ r. ⌜ Put (decimal a ++ bytes " " ++ decimal b) at (now (out .entry)) r (now (out .exit)) × (r ≤ at + 7) ⌝ }
+    requires { ⌜ (a < 100) × (b ≤ a) × (at + 5 ≤ maxText) ⌝ }
+    ensures { λ r. ⌜ Put (decimal a ++ bytes " " ++ decimal b) at (now (out .entry)) r (now (out .exit)) × (r ≤ at + 5) × (a < 10 → r ≤ at + 3) ⌝ }
 {
     let first = put_decimal(out, at, a);
     let space = put_byte(out, first, b' ');

@@ -1,8 +1,8 @@
-// Numbers from bytes: words of eight bytes, lowest first.
+// Numbers from bytes, the lowest first: words of eight bytes and of two.
 ghost use mathlib.Core.Path.{_≡_};
-ghost use Prim.Native.Nat.{_+_, _*_, _<_, _^_};
+ghost use Prim.Native.Nat.{_+_, _*_, _<_, _≤_, _^_};
 ghost use lib.ListN.{getD, drop};
-ghost use Rattle.scope.specs.CardFile.{word};
+ghost use Rattle.scope.specs.CardFile.{word, shortWord};
 
 // The word at a place, lowest byte first. What lies past the end counts as 0.
 pub(crate) fn word_at(bytes: &[u8], at: usize) -> u64
@@ -21,6 +21,14 @@ fn half_at(bytes: &[u8], at: usize, k: usize) -> u64
         + byte_at(bytes, at, k + 1) * 256
         + byte_at(bytes, at, k + 2) * 65536
         + byte_at(bytes, at, k + 3) * 16777216
+}
+
+// The word of two bytes from the k-th after a place.
+pub(crate) fn short_at(bytes: &[u8], at: usize, k: usize) -> u16
+    requires { ⌜ k ≤ 24 ⌝ }
+    ensures { λ r. ⌜ r ≡ shortWord (drop at (now (bytes .entry))) k ⌝ }
+{
+    (byte_at(bytes, at, k) + byte_at(bytes, at, k + 1) * 256) as u16
 }
 
 // The k-th byte after a place, 0 past the end.

@@ -7,10 +7,11 @@ use lib.Ieee.{Float}
 use lib.ListN.{length}
 use Rattle.shapes.specs.declared.circle.Circle.{Circle}
 use Rattle.scope.specs.Runs.{any}
-use Rattle.scope.specs.Refusals.{refusal, tooMany, badCentre, badRadius, circlesRefusal}
+use Rattle.scope.specs.Refusals.{refusal, tooMany, badCentre, badRadius, inks, sameInk, circlesRefusal}
 use Rattle.scope.specs.Groups.{plainClusters, Grouping, refusedGrouping, acceptedGrouping, grouping, plainGrouping}
 use Rattle.scope.specs.Twins.{countedGrouping}
-use Rattle.intake.specs.Columns.{xsOf, ysOf, radiiOf, overwritten}
+use Rattle.intake.specs.Columns.{xsOf, ysOf, radiiOf}
+use Rattle.intake.specs.Splits.{loaded}
 use Rattle.intake.specs.CauseWords.{front, circleChecks}
 use Rattle.laws.specs.Answers.{Answers}
 use Rattle.laws.proofs.AfterRefusal.{plain-grouping-answers}
@@ -32,19 +33,16 @@ pub counted-same : (n : ℕ) (cs ds : List Circle) → (tooMany n ≡ false → 
 unfolding countedGrouping grouping
 counted-same n cs ds e = by-many n (λ h. rw h) (λ h. rw (e h))
 
--- ---- the number of the checks of three arrays
-pub front-number : (n : ℕ) (xs ys rs : List Float) → refusal (circleChecks n xs ys rs) ≡ countedRefusal n (front n xs ys rs)
+-- ---- the number of the checks of four arrays
+pub front-number : (n : ℕ) (xs ys rs : List Float) (is : List ℕ) → refusal (circleChecks n xs ys rs is) ≡ countedRefusal n (front n xs ys rs is)
 unfolding circlesRefusal
-front-number n xs ys rs = counted-number n (length (front n xs ys rs)) _ (few-in-front n xs ys rs)
+front-number n xs ys rs is = counted-number n (length (front n xs ys rs is)) _ (few-in-front n xs ys rs is)
 
--- ---- a run whose columns were written over three arrays, unless there are too many circles
-abbrev column : (List Circle → List Float) → ℕ → List Circle → List Float → List Float
-column f n cs zs = cond (tooMany n) zs (overwritten (f cs) zs)
-
-pub split-grouping : (n : ℕ) (cs : List Circle) (xs ys rs : List Float) → (tooMany n ≡ false → length cs ≡ n)
-    → countedGrouping n (front n (column xsOf n cs xs) (column ysOf n cs ys) (column radiiOf n cs rs)) ≡ countedGrouping n cs
-split-grouping n cs xs ys rs long = counted-same n _ cs (λ h. rw h (front-shown n cs xs ys rs (long h)))
+-- ---- a run whose columns were written over four arrays, unless there are too many circles
+pub split-grouping : (n : ℕ) (cs : List Circle) (xs ys rs : List Float) (is : List ℕ) → (tooMany n ≡ false → length cs ≡ n)
+    → countedGrouping n (front n (loaded n (xsOf cs) xs) (loaded n (ysOf cs) ys) (loaded n (radiiOf cs) rs) (loaded n (inks cs) is)) ≡ countedGrouping n cs
+split-grouping n cs xs ys rs is long = counted-same n _ cs (λ h. rw h (front-shown n cs xs ys rs is (long h)))
 
 pub whole-grouping : (cs : List Circle) → countedGrouping (length cs) cs ≡ plainGrouping cs
 unfolding countedGrouping plainGrouping circlesRefusal grouping
-whole-grouping cs = by-many (length cs) (λ h. rw (h, at-once ((3, any badCentre cs) ∷ (4, any badRadius cs) ∷ []))) (λ h. rw h)
+whole-grouping cs = by-many (length cs) (λ h. rw (h, at-once ((3, any badCentre cs) ∷ (4, any badRadius cs) ∷ (14, sameInk cs) ∷ []))) (λ h. rw h)

@@ -19,6 +19,6 @@ grouped r = record { refusal = r .refusal; count = r .count; numbers = r .number
 abbrev pub NumbersByChains : ℕ → Float → List Region → List ℕ → Type 0
 NumbersByChains n tol rs numbers = (i j : ℕ) → i < n → j < n → (getD numbers i 0 ≡ getD numbers j 0) ↔ ((i ≡ j) ⊎ Chain n tol rs i j)
 
--- the plain clustering of the circles that the first n numbers of three arrays show
-abbrev pub shownGrouping : ℕ → List Float → List Float → List Float → Grouping
-shownGrouping n xs ys rs = countedGrouping n (front n xs ys rs)
+-- the plain clustering of the circles that the first n numbers of four arrays show
+abbrev pub shownGrouping : ℕ → List Float → List Float → List Float → List ℕ → Grouping
+shownGrouping n xs ys rs is = countedGrouping n (front n xs ys rs is)

@@ -1,5 +1,5 @@
 // Which circles belong together: by the regions that they share, or by how they lie.
-// Circles stand in three lists of one length: their centres' x, their centres' y, their radii.
+// Circles stand in three lists of one length: their centres' x, their centres' y, their radii. Inks count for the refusal alone.
 ghost use mathlib.Core.Path.{_≡_};
 ghost use mathlib.Core.Bool.{Bool, false, not, _&&_, _||_};
 ghost use mathlib.Core.List.{List};
@@ -17,7 +17,7 @@ ghost use Rattle.scope.specs.Twins.{firstGrouping};
 ghost use Rattle.laws.proofs.Closure.{Equivalence};
 ghost use Rattle.intake.specs.Limits.{maxCircles};
 ghost use Rattle.intake.specs.Columns.{circlesOf};
-ghost use Rattle.intake.specs.CauseWords.{front};
+ghost use Rattle.intake.specs.CauseWords.{bareFront};
 ghost use Rattle.intake.specs.Firsts.{FirstFrom};
 ghost use Rattle.clustering.specs.Answers.{grouped, NumbersByChains, shownGrouping};
 ghost use Rattle.clustering.specs.Table.{Row, Shows};
@@ -65,15 +65,16 @@ pub fn find_clusters_from_exclusive_regions(
 }
 
 // Circles belong together if their edges cross or one lies inside the other. Only the first n are looked at.
-// Refused: too many circles (1), a centre (3) or a radius (4) out of range.
+// Refused: too many circles (1), a centre (3) or a radius (4) out of range, two circles of one ink (14).
 pub fn find_clusters_by_value(circles: [Circle; MAX_CIRCLES], n: usize) -> Clusters
     ensures { λ r. ⌜ grouped r ≡ firstGrouping n circles ⌝ }
 {
     let mut xs = [0.0; MAX_CIRCLES];
     let mut ys = [0.0; MAX_CIRCLES];
     let mut radii = [0.0; MAX_CIRCLES];
-    split_array(circles, n, &mut xs, &mut ys, &mut radii);
-    clusters_at(&xs, &ys, &radii, n)
+    let mut inks = [0u16; MAX_CIRCLES];
+    split_array(circles, n, &mut xs, &mut ys, &mut radii, &mut inks);
+    clusters_at(&xs, &ys, &radii, &inks, n)
 }
 
 // The same of a lent run of circles, all of them.
@@ -83,9 +84,10 @@ pub fn find_clusters(circles: &[Circle]) -> Clusters
     let mut xs = [0.0; MAX_CIRCLES];
     let mut ys = [0.0; MAX_CIRCLES];
     let mut radii = [0.0; MAX_CIRCLES];
+    let mut inks = [0u16; MAX_CIRCLES];
     let n = circles.len();
-    split(circles, &mut xs, &mut ys, &mut radii);
-    clusters_at(&xs, &ys, &radii, n)
+    split(circles, &mut xs, &mut ys, &mut radii, &mut inks);
+    clusters_at(&xs, &ys, &radii, &inks, n)
 }
 
 // What is no more than this does not count in a layout: 1e-10 of the largest area, or of 1. Rounding leaves some 1e-12 of the largest where there is no
@@ -102,16 +104,17 @@ pub fn tolerance(areas: &[f64]) -> f64
     1e-10 * maximum(largest, 1.0)
 }
 
-// The plain clustering of circles whose numbers stand in the front of three arrays.
+// The plain clustering of circles whose numbers stand in the front of four arrays.
 fn clusters_at(
     xs: &[f64; MAX_CIRCLES],
     ys: &[f64; MAX_CIRCLES],
     radii: &[f64; MAX_CIRCLES],
+    inks: &[u16; MAX_CIRCLES],
     n: usize,
 ) -> Clusters
-    ensures { λ r. ⌜ grouped r ≡ shownGrouping n (now (xs .entry)) (now (ys .entry)) (now (radii .entry)) ⌝ }
+    ensures { λ r. ⌜ grouped r ≡ shownGrouping n (now (xs .entry)) (now (ys .entry)) (now (radii .entry)) (now (inks .entry)) ⌝ }
 {
-    let refusal = number_of(of_circles(xs, ys, radii, n));
+    let refusal = number_of(of_circles(xs, ys, radii, inks, n));
     if refusal != 0 {
         return refused(refusal);
     }
@@ -143,7 +146,7 @@ fn by_regions(n: usize, masks: &[u64], areas: &[f64], tolerance: f64) -> Cluster
 
 fn in_front(xs: &[f64], ys: &[f64], radii: &[f64], n: usize) -> Clusters
     requires { ⌜ (n ≤ maxCircles) × (length (now xs) ≡ maxCircles) × (length (now ys) ≡ maxCircles) × (length (now radii) ≡ maxCircles) ⌝ }
-    ensures { λ r. ⌜ grouped r ≡ grouping 0 (plainClusters (front n (now (xs .entry)) (now (ys .entry)) (now (radii .entry)))) ⌝ }
+    ensures { λ r. ⌜ grouped r ≡ grouping 0 (plainClusters (bareFront n (now (xs .entry)) (now (ys .entry)) (now (radii .entry)))) ⌝ }
 {
     by_circles(&xs[0..n], &ys[0..n], &radii[0..n])
 }
@@ -279,7 +282,7 @@ fn exceeds(area: f64, tolerance: f64) -> bool
 
 // ---- two circles
 
-// The circle at a place of the lists.
+// The circle at a place of the lists. No step looks at its ink.
 fn at(xs: &[f64], ys: &[f64], radii: &[f64], i: usize) -> Circle
     requires { ⌜ (i < length (now xs)) × (length (now ys) ≡ length (now xs)) × (length (now radii) ≡ length (now xs)) ⌝ }
     ensures { λ r. ⌜ r ≡ circle (circlesOf (now (xs .entry)) (now (ys .entry)) (now (radii .entry))) i ⌝ }
@@ -287,6 +290,7 @@ fn at(xs: &[f64], ys: &[f64], radii: &[f64], i: usize) -> Circle
     Circle {
         center: Point { x: xs[i], y: ys[i] },
         radius: radii[i],
+        ink: 0,
     }
 }
 

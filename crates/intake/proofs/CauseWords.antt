@@ -2,7 +2,7 @@
 use Prim.Native.Nat.{ℕ, _+_, _^_, _<_}
 use native.Mathlib.Numerals.{add-one}
 use mathlib.Core.Path.{_≡_, refl, sym, ap, _∙_}
-use mathlib.Core.Bool.{Bool, true, false, cond, _&&_, _||_, or-false, and-true, and-false}
+use mathlib.Core.Bool.{Bool, true, false, cond, _&&_, _||_, or-false, or-assoc, and-true, and-false}
 use mathlib.Core.List.{List, [], _∷_, _++_}
 use lib.Bits.{bitOr}
 use lib.Dec.{T, eqb, ltb, ltb→lt}
@@ -47,11 +47,8 @@ one-cause j false w e k = rw e (bit-none k ∙ sym (or-false _ ∙ and-false (eq
 holds-append : (cs ds : Checks) (k : ℕ) → causeHolds (cs ++ ds) k ≡ causeHolds cs k || causeHolds ds k
 unfolding causeHolds
 holds-append [] ds k = refl
-holds-append (c ∷ cs) ds k = ap (λ (b : Bool). (eqb (c .0) k && c .1) || b) (holds-append cs ds k) ∙ sym (assoc (eqb (c .0) k && c .1) (causeHolds cs k) (causeHolds ds k))
-  where
-    assoc : (a b d : Bool) → (a || b) || d ≡ a || (b || d)
-    assoc true b d = refl
-    assoc false b d = refl
+holds-append (c ∷ cs) ds k =
+    ap (λ (b : Bool). (eqb (c .0) k && c .1) || b) (holds-append cs ds k) ∙ sym (or-assoc (eqb (c .0) k && c .1) (causeHolds cs k) (causeHolds ds k))
 
 pub joined : (w v : ℕ) (cs ds : Checks) → Says w cs → Says v ds → Says (bitOr w v) (cs ++ ds)
 joined w v cs ds p q k = bit-or w v k ∙ rw (p k, q k) (sym (holds-append cs ds k))
@@ -78,11 +75,12 @@ number-says w cs e = first-same (bit w) (causeHolds cs) e causes
 
 -- ---- the order in which the checks stand
 
--- what the words of circles, regions and a factor say when they are joined, in document 01's order
-pub layout-checks : (a b c d e f g : Bool)
-    → refusal ((1, a) ∷ (3, b) ∷ (4, c) ∷ (13, d) ∷ (2, e) ∷ (5, f) ∷ (6, g) ∷ []) ≡ refusal ((1, a) ∷ (13, d) ∷ (2, e) ∷ (3, b) ∷ (4, c) ∷ (5, f) ∷ (6, g) ∷ [])
+-- what the words of circles, regions and a factor say when they are joined, in the order of causes
+pub layout-checks : (a b c d e f g h : Bool)
+    → refusal ((1, a) ∷ (3, b) ∷ (4, c) ∷ (14, h) ∷ (13, d) ∷ (2, e) ∷ (5, f) ∷ (6, g) ∷ [])
+    ≡ refusal ((1, a) ∷ (13, d) ∷ (2, e) ∷ (3, b) ∷ (4, c) ∷ (5, f) ∷ (6, g) ∷ (14, h) ∷ [])
 unfolding refusal first causeHolds causes
-layout-checks a b c d e f g = refl
+layout-checks a b c d e f g h = refl
 
 -- ---- the search for it, cause by cause
 small : ℕ → ℕ → Bool

@@ -1,10 +1,12 @@
--- The circles that lists of numbers show: their count, each of them, and when they are those of a definition by `tab`. Lists that were changed number by number.
-use Prim.Native.Nat.{ℕ, suc, _≤_, _<_, min}
+-- The circles that lists of numbers show: their count, each of them, and when they are those of a definition by `tab`; with inks put on. Lists that were changed
+-- number by number.
+use Prim.Native.Nat.{ℕ, suc, _+_, _≤_, _<_, min}
 use native.Mathlib.Decide.{decLt}
+use native.Mathlib.Numerals.{add-one}
 use native.Mathlib.Omega.{arith}
 use mathlib.Core.Path.{_≡_, refl, sym, ap, _∙_}
-use mathlib.Core.Logic.{inl, inr, ⊎-elim}
-use mathlib.Core.Bool.{Bool, true, false, not, cond, _&&_, _||_}
+use mathlib.Core.Logic.{_⊎_, inl, inr, ⊎-elim}
+use mathlib.Core.Bool.{Bool, true, false, not, cond, _&&_, _||_, or-true, or-false}
 use mathlib.Core.List.{List, append-nil}
 use lib.ListN.{length, getD, take, drop, length-take}
 use lib.Seq.{take-length, drop-length, length-take-le, drop-cons, getD-at, take-all, ext-getD}
@@ -16,15 +18,18 @@ use Rattle.scope.specs.Numbers.{_+ᶠ_}
 use Rattle.scope.specs.Runs.{tab, any, someBelow}
 use Rattle.scope.specs.Limits.{coordinateOk, radiusOk}
 use Rattle.scope.specs.Links.{circle, nowhere}
-use Rattle.scope.specs.Refusals.{badPoint, badCentre, badRadius}
+use Rattle.scope.specs.Refusals.{badPoint, badCentre, badRadius, repeated, inks, sameInk}
 use Rattle.scope.specs.Packing.{rectangle}
 use Rattle.scope.specs.Offset.{translated}
 use Rattle.scope.specs.Centring.{allTranslated}
+use Rattle.laws.specs.Inks.{withInk, inked}
+use Rattle.laws.proofs.Accepted.{ink-at}
+use Rattle.laws.proofs.Inks.{length-inked, inked-at, inks-inked}
 use Rattle.laws.proofs.Cases.{or-iff}
 use Rattle.laws.proofs.Runs.{length-tab, getD-tab, tab-equal, any-at, someBelow-iff}
 use Rattle.intake.specs.Limits.{maxCircles}
-use Rattle.shapes.specs.Records.{circleOf}
-use Rattle.intake.specs.Columns.{at, circlesOf, xsOf, ysOf, radiiOf, widthsOf, heightsOf, each, members, Lifted}
+use Rattle.intake.specs.Columns.{at, bareCircle, circlesOf, xsOf, ysOf, radiiOf, widthsOf, heightsOf, each, members, Lifted}
+use Rattle.intake.specs.CauseWords.{bareFront, front}
 use Rattle.intake.proofs.InPlace.{so-far, rewritten, all-rewritten}
 
 -- ---- a loop over a whole list that writes each element anew: its end, and what it has not come to yet
@@ -41,16 +46,16 @@ module _ {A : Type 0} (g : ℕ → A → A) (d : A) (l : List A) where
 -- ---- the circles shown
 pub length-shown : (xs ys rs : List Float) → length (circlesOf xs ys rs) ≡ length xs
 unfolding circlesOf
-length-shown xs ys rs = length-tab (length xs) (λ i. circleOf (at xs i) (at ys i) (at rs i))
+length-shown xs ys rs = length-tab (length xs) (λ i. bareCircle (at xs i) (at ys i) (at rs i))
 
-pub shown-at : (xs ys rs : List Float) (i : ℕ) → i < length xs → circle (circlesOf xs ys rs) i ≡ circleOf (at xs i) (at ys i) (at rs i)
+pub shown-at : (xs ys rs : List Float) (i : ℕ) → i < length xs → circle (circlesOf xs ys rs) i ≡ bareCircle (at xs i) (at ys i) (at rs i)
 unfolding circlesOf
-shown-at xs ys rs i h = getD-tab (length xs) (λ k. circleOf (at xs k) (at ys k) (at rs k)) i nowhere h
+shown-at xs ys rs i h = getD-tab (length xs) (λ k. bareCircle (at xs k) (at ys k) (at rs k)) i nowhere h
 
 -- they are those of a definition by `tab`, if each is
-pub shown-equal : (xs ys rs : List Float) (n : ℕ) (f : ℕ → Circle) → length xs ≡ n → ((i : ℕ) → i < n → circleOf (at xs i) (at ys i) (at rs i) ≡ f i) → circlesOf xs ys rs ≡ tab n f
+pub shown-equal : (xs ys rs : List Float) (n : ℕ) (f : ℕ → Circle) → length xs ≡ n → ((i : ℕ) → i < n → bareCircle (at xs i) (at ys i) (at rs i) ≡ f i) → circlesOf xs ys rs ≡ tab n f
 unfolding circlesOf
-shown-equal xs ys rs n f e same = rw e (tab-equal n (λ i. circleOf (at xs i) (at ys i) (at rs i)) f same)
+shown-equal xs ys rs n f e same = rw e (tab-equal n (λ i. bareCircle (at xs i) (at ys i) (at rs i)) f same)
 
 -- ---- the lists of a run
 pub length-xs : (cs : List Circle) → length (xsOf cs) ≡ length cs
@@ -77,12 +82,15 @@ pub radius-at : (cs : List Circle) (i : ℕ) → i < length cs → at (radiiOf c
 unfolding radiiOf
 radius-at cs i h = getD-tab (length cs) (λ k. circle cs k .radius) i nan h
 
--- a run is shown by its lists
-pub shown-back : (cs : List Circle) → circlesOf (xsOf cs) (ysOf cs) (radiiOf cs) ≡ cs
+-- a run is shown by its four lists
+pub shown-back : (cs : List Circle) → inked (inks cs) (circlesOf (xsOf cs) (ysOf cs) (radiiOf cs)) ≡ cs
 shown-back cs =
-    ext-getD nowhere _ cs (length-shown _ _ _ ∙ length-xs cs) (λ i h.
-    let below : i < length cs = rw (length-shown (xsOf cs) (ysOf cs) (radiiOf cs), length-xs cs) at h in
-    shown-at (xsOf cs) (ysOf cs) (radiiOf cs) i (rw (length-xs cs) below) ∙ rw (x-at cs i below, y-at cs i below, radius-at cs i below))
+    let bare = circlesOf (xsOf cs) (ysOf cs) (radiiOf cs) in
+    let count : length bare ≡ length cs = length-shown _ _ _ ∙ length-xs cs in
+    ext-getD nowhere _ cs (length-inked (inks cs) bare ∙ count) (λ i h.
+    let below : i < length cs = rw (length-inked (inks cs) bare, count) at h in
+    inked-at (inks cs) bare i (rw count below)
+    ∙ rw (shown-at (xsOf cs) (ysOf cs) (radiiOf cs) i (rw (length-xs cs) below), x-at cs i below, y-at cs i below, radius-at cs i below, ink-at cs i))
 
 -- ---- the lists of a run of boxes
 pub length-widths : (rects : List Rectangle) → length (widthsOf rects) ≡ length rects
@@ -127,6 +135,32 @@ same-truth false false f g = refl
 pub any-below : {A : Type 0} (p : A → Bool) (l : List A) (d : A) → any p l ≡ someBelow (length l) (λ i. p (getD l i d))
 any-below p l d = same-truth _ _ (λ t. someBelow-iff (length l) (λ i. p (getD l i d)) .1 (any-at p l d .0 t)) (λ t. any-at p l d .1 (someBelow-iff (length l) (λ i. p (getD l i d)) .0 t))
 
+-- a flag that a turn sets where a test holds, and else leaves
+abbrev pub Flag : Bool → Bool → Bool → Type 0
+Flag test before after = ((test ≡ true) × (after ≡ true)) ⊎ ((test ≡ false) × (after ≡ before))
+
+pub flag-is : {test after : Bool} (before : Bool) → Flag test before after → after ≡ before || test
+flag-is before = ⊎-elim (λ w. w .1 ∙ rw (w .0) (sym (or-true before))) (λ w. w .1 ∙ rw (w .0) (sym (or-false before)))
+
+pub flagged : (p : ℕ → Bool) (i : ℕ) {after : Bool} (before : Bool) → before ≡ someBelow i p → Flag (p i) before after → after ≡ someBelow (i + 1) p
+unfolding someBelow
+flagged p i before e came = rw (add-one, ← e) (flag-is before came)
+
+-- what fails at the same places of two lists
+any-same : {A B : Type 0} (p : A → Bool) (q : B → Bool) (l : List A) (m : List B) (d : A) (e : B) → length l ≡ length m
+    → ((i : ℕ) → i < length m → p (getD l i d) ≡ q (getD m i e)) → any p l ≡ any q m
+any-same p q l m d e long same =
+    same-truth _ _
+    (λ t. let f = any-at p l d .0 t in
+    let below : f .0 < length m = rw long at (f .1) in
+    any-at q m e .1 (f .0, below, rw (same (f .0) below) at (f .2)))
+    (λ t. let f = any-at q m e .0 t in any-at p l d .1 (f .0, rw long (f .1), rw (same (f .0) (f .1)) (f .2)))
+
+-- a test that does not look at the ink
+any-inked : (p : Circle → Bool) (blind : (k : ℕ) (c : Circle) → p (withInk k c) ≡ p c) (is : List ℕ) (cs : List Circle) → any p (inked is cs) ≡ any p cs
+any-inked p blind is cs =
+    any-same p p (inked is cs) cs nowhere nowhere (length-inked is cs) (λ i h. ap p (inked-at is cs i h) ∙ blind (getD is i 0) (circle cs i))
+
 -- a record fails if either of two numbers does: one of the records fails exactly if a number of either list does
 pub any-either : {A : Type 0} (p : A → Bool) (q : Float → Bool) (l : List A) (d : A) (xs ys : List Float) → length l ≡ length xs → length ys ≡ length xs
     → ((i : ℕ) → i < length xs → p (getD l i d) ≡ q (at xs i) || q (at ys i)) → any p l ≡ any q xs || any q ys
@@ -159,28 +193,36 @@ module _ (xs ys rs : List Float) where
   any-radius : length rs ≡ length xs → any badRadius (circlesOf xs ys rs) ≡ any (λ r. not (radiusOk r)) rs
   unfolding badRadius
   any-radius e =
-      same-truth _ _
-      (λ t. let f = any-at badRadius (circlesOf xs ys rs) nowhere .0 t in
-      let below : f .0 < length xs = rw (length-shown xs ys rs) at (f .1) in
-      any-at (λ r. not (radiusOk r)) rs nan .1 (f .0, rw e below, rw (shown-at xs ys rs (f .0) below) at (f .2)))
-      (λ t. let f = any-at (λ r. not (radiusOk r)) rs nan .0 t in
-      let below : f .0 < length xs = rw e at (f .1) in
-      any-at badRadius (circlesOf xs ys rs) nowhere .1 (f .0, rw (length-shown xs ys rs) below, rw (shown-at xs ys rs (f .0) below) (f .2)))
+      any-same badRadius (λ r. not (radiusOk r)) (circlesOf xs ys rs) rs nowhere nan (length-shown xs ys rs ∙ sym e)
+      (λ i h. let below : i < length xs = rw e at h in rw (shown-at xs ys rs i below))
 
--- ---- the circles in the front of three arrays
-module _ (n m : ℕ) (xs ys rs : List Float) (x : length xs ≡ maxCircles) (y : length ys ≡ maxCircles) (r : length rs ≡ maxCircles) (room : m ≡ min n maxCircles) where
-  take-room : (l : List Float) → length l ≡ maxCircles → take m l ≡ take n l
+-- ---- the circles in the front of four arrays
+module _ (n m : ℕ) (xs ys rs : List Float) (is : List ℕ) (x : length xs ≡ maxCircles) (y : length ys ≡ maxCircles) (r : length rs ≡ maxCircles)
+    (k : length is ≡ maxCircles) (room : m ≡ min n maxCircles) where
+  take-room : {A : Type 0} (l : List A) → length l ≡ maxCircles → take m l ≡ take n l
   take-room l e =
       elim (decLt n (length l)) [
         | yes h ↦ let same : m ≡ n = omega arith in rw same
         | no h ↦ take-all m l (omega arith) ∙ sym (take-all n l (omega arith))
       ]
 
-  same-front : (l k : List Float) → length l ≡ maxCircles → length k ≡ maxCircles → length (take n l) ≡ length (take n k)
-  same-front l k e f = length-take n l ∙ ap (min n) (e ∙ sym f) ∙ sym (length-take n k)
+  same-front : {A B : Type 0} (l : List A) (j : List B) → length l ≡ maxCircles → length j ≡ maxCircles → length (take n l) ≡ length (take n j)
+  same-front l j e f = length-take n l ∙ ap (min n) (e ∙ sym f) ∙ sym (length-take n j)
 
-  pub front-centre : any badCentre (circlesOf (take n xs) (take n ys) (take n rs)) ≡ any (λ v. not (coordinateOk v)) (take m xs) || any (λ v. not (coordinateOk v)) (take m ys)
-  front-centre = any-centre (take n xs) (take n ys) (take n rs) (same-front ys xs y x) ∙ rw (take-room xs x, take-room ys y)
+  pub front-centre : any badCentre (front n xs ys rs is) ≡ any (λ v. not (coordinateOk v)) (take m xs) || any (λ v. not (coordinateOk v)) (take m ys)
+  unfolding badCentre
+  front-centre =
+      any-inked badCentre (λ _ _. refl) (take n is) (bareFront n xs ys rs) ∙ any-centre (take n xs) (take n ys) (take n rs) (same-front ys xs y x)
+      ∙ rw (take-room xs x, take-room ys y)
 
-  pub front-radius : any badRadius (circlesOf (take n xs) (take n ys) (take n rs)) ≡ any (λ v. not (radiusOk v)) (take m rs)
-  front-radius = any-radius (take n xs) (take n ys) (take n rs) (same-front rs xs r x) ∙ rw (take-room rs r)
+  pub front-radius : any badRadius (front n xs ys rs is) ≡ any (λ v. not (radiusOk v)) (take m rs)
+  unfolding badRadius
+  front-radius =
+      any-inked badRadius (λ _ _. refl) (take n is) (bareFront n xs ys rs) ∙ any-radius (take n xs) (take n ys) (take n rs) (same-front rs xs r x)
+      ∙ rw (take-room rs r)
+
+  pub front-inks : sameInk (front n xs ys rs is) ≡ repeated (take m is)
+  unfolding sameInk
+  front-inks =
+      ap repeated (inks-inked (take n is) (bareFront n xs ys rs) (same-front is xs k x ∙ sym (length-shown (take n xs) (take n ys) (take n rs)))
+      ∙ sym (take-room is k))

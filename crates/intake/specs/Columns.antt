@@ -1,4 +1,5 @@
 -- Circles as three lists of numbers of one length: their centres' x, their centres' y, their radii. The steps of a layout work on such lists, in place.
+-- No step looks at an ink, so there the circles stand with ink 0; their inks are a fourth list, which is put on again at the end.
 use Prim.Native.Nat.{ℕ}
 use mathlib.Core.Path.{_≡_}
 use mathlib.Core.Bool.{Bool, cond}
@@ -17,9 +18,13 @@ use Rattle.scope.specs.Packing.{rectangle}
 abbrev pub at : List Float → ℕ → Float
 at l i = getD l i nan
 
+-- a circle as the steps see it
+abbrev pub bareCircle : Float → Float → Float → Circle
+bareCircle x y r = circleOf x y r 0
+
 -- the circles that the lists show
 unfoldable pub circlesOf : List Float → List Float → List Float → List Circle
-circlesOf xs ys rs = tab (length xs) (λ i. circleOf (at xs i) (at ys i) (at rs i))
+circlesOf xs ys rs = tab (length xs) (λ i. bareCircle (at xs i) (at ys i) (at rs i))
 
 -- the lists of a run of circles
 unfoldable pub xsOf : List Circle → List Float

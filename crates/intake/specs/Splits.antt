@@ -1,5 +1,5 @@
 -- A run of records taken apart into arrays: 0 and each column over the front of its array, or 1 and the arrays as they were, where there are too many records.
--- Arrays stand in the order of their columns: the centres' x, the centres' y, the radii; of boxes the widths, the heights.
+-- Arrays stand in the order of their columns: the centres' x, the centres' y, the radii, the inks; of boxes the widths, the heights.
 use Prim.Native.Nat.{ℕ}
 use mathlib.Core.Path.{_≡_}
 use mathlib.Core.Bool.{cond}
@@ -8,7 +8,7 @@ use lib.Ieee.{Float}
 use lib.ListN.{length}
 use Rattle.shapes.specs.declared.circle.Circle.{Circle}
 use Rattle.shapes.specs.declared.rectangle.Rectangle.{Rectangle}
-use Rattle.scope.specs.Refusals.{tooMany}
+use Rattle.scope.specs.Refusals.{tooMany, inks}
 use Rattle.intake.specs.Columns.{xsOf, ysOf, radiiOf, widthsOf, heightsOf, overwritten}
 
 -- how many of n records are taken, and the number that comes back
@@ -25,22 +25,28 @@ loaded n column before = cond (tooMany n) before (overwritten column before)
 abbrev pub Two : Type 0
 Two = List Float × List Float
 
-abbrev pub Three : Type 0
-Three = List Float × List Float × List Float
+abbrev pub Four : Type 0
+Four = List Float × List Float × List Float × List ℕ
 
 -- the columns of the circles over the arrays, however many there are
-abbrev pub Written : List Circle → (before after : Three) → Type 0
+abbrev pub Written : List Circle → (before after : Four) → Type 0
 Written cs before after =
-    (after .0 ≡ overwritten (xsOf cs) (before .0)) × (after .1 ≡ overwritten (ysOf cs) (before .1)) × (after .2 ≡ overwritten (radiiOf cs) (before .2))
+    (after .0 ≡ overwritten (xsOf cs) (before .0))
+    × (after .1 ≡ overwritten (ysOf cs) (before .1))
+    × (after .2 ≡ overwritten (radiiOf cs) (before .2))
+    × (after .3 ≡ overwritten (inks cs) (before .3))
 
 -- the number that comes back for n circles, and the arrays
-abbrev pub Split : ℕ → List Circle → (before : Three) → ℕ → (after : Three) → Type 0
+abbrev pub Split : ℕ → List Circle → (before : Four) → ℕ → (after : Four) → Type 0
 Split n cs before r after =
     (r ≡ countRefusal n)
-    × (after .0 ≡ loaded n (xsOf cs) (before .0)) × (after .1 ≡ loaded n (ysOf cs) (before .1)) × (after .2 ≡ loaded n (radiiOf cs) (before .2))
+    × (after .0 ≡ loaded n (xsOf cs) (before .0))
+    × (after .1 ≡ loaded n (ysOf cs) (before .1))
+    × (after .2 ≡ loaded n (radiiOf cs) (before .2))
+    × (after .3 ≡ loaded n (inks cs) (before .3))
 
 -- of a whole run
-abbrev pub RunSplit : List Circle → (before : Three) → ℕ → (after : Three) → Type 0
+abbrev pub RunSplit : List Circle → (before : Four) → ℕ → (after : Four) → Type 0
 RunSplit cs = Split (length cs) cs
 
 abbrev pub SidesSplit : List Rectangle → (before : Two) → ℕ → (after : Two) → Type 0

@@ -11,5 +11,6 @@ pub fn blank() -> Circle
     Circle {
         center: Point { x: 0.0, y: 0.0 },
         radius: 0.0,
+        ink: 0,
     }
 }

@@ -3,10 +3,11 @@ ghost use mathlib.Core.Path.{_≡_};
 ghost use mathlib.Core.Bool.{not, cond, _||_};
 ghost use mathlib.Core.List.{[], _∷_};
 ghost use Prim.Native.Nat.{_<_};
+ghost use lib.Dec.{eqb};
 ghost use lib.ListN.{length};
 ghost use Rattle.scope.specs.Runs.{any, bit};
 ghost use Rattle.scope.specs.Limits.{within, coordinateOk, radiusOk, sideOk};
-ghost use Rattle.scope.specs.Refusals.{causes, first, tooMany, rising, badPoint, badCentre, badRadius, badFactor, badSide, badPadding};
+ghost use Rattle.scope.specs.Refusals.{causes, first, tooMany, rising, badPoint, badCentre, badRadius, badFactor, badSide, badPadding, repeated};
 ghost use Rattle.intake.specs.CauseWords.{Says, circleChecks, regionChecks};
 ghost use Rattle.intake.specs.Limits.{maxCircles};
 use crate::limits::MAX_CIRCLES;
@@ -25,8 +26,8 @@ use shapes::circle::Circle;
 use shapes::point::Point;
 use shapes::rectangle::Rectangle;
 
-// Document 01's order: 13 goes before 2. A later number is appended.
-const ORDER: [u8; 13] = [1, 13, 2, 3, 4, 5, 6, 7, 8, 9, 10, 11, 12];
+// Document 01's order: 13 goes before 2. The numbers of later requests are appended.
+const ORDER: [u8; 14] = [1, 13, 2, 3, 4, 5, 6, 7, 8, 9, 10, 11, 12, 14];
 
 // The first cause of a word in that order, 0 where none holds.
 pub fn number_of(word: u32) -> u8
@@ -34,7 +35,7 @@ pub fn number_of(word: u32) -> u8
 {
     let order = ORDER;
     let mut i: usize = 0;
-    while i < 13 {
+    while i < 14 {
         let k = order[i];
         if has(word, k) {
             return k;
@@ -155,24 +156,34 @@ pub fn of_sides(list: &[f64]) -> u32
     flag(any_outside(list, 0.0, MAX_SIDE), 128)
 }
 
-// 1, 3, 4, of circles whose numbers stand in the front of three arrays
+// 14
+fn of_inks(list: &[u16]) -> u32
+    ensures { λ r. ⌜ Says r ((14, repeated (now (list .entry))) ∷ []) ⌝ }
+{
+    flag(any_repeated(list), 16384)
+}
+
+// 1, 3, 4, 14, of circles whose numbers stand in the front of four arrays
 pub fn of_circles(
     xs: &[f64; MAX_CIRCLES],
     ys: &[f64; MAX_CIRCLES],
     radii: &[f64; MAX_CIRCLES],
+    inks: &[u16; MAX_CIRCLES],
     n: usize,
 ) -> u32
-    ensures { λ r. ⌜ Says r (circleChecks n (now (xs .entry)) (now (ys .entry)) (now (radii .entry))) ⌝ }
+    ensures { λ r. ⌜ Says r (circleChecks n (now (xs .entry)) (now (ys .entry)) (now (radii .entry)) (now (inks .entry))) ⌝ }
 {
-    of_lists(xs, ys, radii, n)
+    of_lists(xs, ys, radii, inks, n)
 }
 
-fn of_lists(xs: &[f64], ys: &[f64], radii: &[f64], n: usize) -> u32
-    requires { ⌜ (length (now xs) ≡ maxCircles) × (length (now ys) ≡ maxCircles) × (length (now radii) ≡ maxCircles) ⌝ }
-    ensures { λ r. ⌜ Says r (circleChecks n (now (xs .entry)) (now (ys .entry)) (now (radii .entry))) ⌝ }
+fn of_lists(xs: &[f64], ys: &[f64], radii: &[f64], inks: &[u16], n: usize) -> u32
+    requires { ⌜ (length (now xs) ≡ maxCircles) × (length (now ys) ≡ maxCircles) × (length (now radii) ≡ maxCircles) × (length (now inks) ≡ maxCircles) ⌝ }
+    ensures { λ r. ⌜ Says r (circleChecks n (now (xs .entry)) (now (ys .entry)) (now (radii .entry)) (now (inks .entry))) ⌝ }
 {
     let m = room(n);
-    (of_count(n) | (of_coordinates(&xs[0..m]) | of_coordinates(&ys[0..m]))) | of_radii(&radii[0..m])
+    ((of_count(n) | (of_coordinates(&xs[0..m]) | of_coordinates(&ys[0..m])))
+        | of_radii(&radii[0..m]))
+        | of_inks(&inks[0..m])
 }
 
 // Whether a number of the list is not between low and high. A NaN is between no two numbers.
@@ -188,6 +199,35 @@ fn any_outside(list: &[f64], low: f64, high: f64) -> bool
         i += 1;
     }
     outside
+}
+
+// Whether a number stands twice in the list: each is looked for among those after it.
+fn any_repeated(list: &[u16]) -> bool
+    ensures { λ r. ⌜ r ≡ repeated (now (list .entry)) ⌝ }
+{
+    let mut found = false;
+    let mut i: usize = 0;
+    while i < list.len() {
+        if is_among(list[i], &list[i + 1..]) {
+            found = true;
+        }
+        i += 1;
+    }
+    found
+}
+
+fn is_among(k: u16, list: &[u16]) -> bool
+    ensures { λ r. ⌜ r ≡ any (eqb k) (now (list .entry)) ⌝ }
+{
+    let mut found = false;
+    let mut j: usize = 0;
+    while j < list.len() {
+        if list[j] == k {
+            found = true;
+        }
+        j += 1;
+    }
+    found
 }
 
 fn is_within(x: f64, low: f64, high: f64) -> bool

@@ -9,15 +9,16 @@ use crate::limits::too_many;
 use shapes::circle::Circle;
 use shapes::rectangle::Rectangle;
 
-// The centres and the radii of a run.
+// The centres, the radii and the inks of a run.
 pub fn split(
     circles: &[Circle],
     xs: &mut [f64; MAX_CIRCLES],
     ys: &mut [f64; MAX_CIRCLES],
     radii: &mut [f64; MAX_CIRCLES],
+    inks: &mut [u16; MAX_CIRCLES],
 ) -> u8
-    ensures { λ r. ⌜ RunSplit (now (circles .entry)) (now (xs .entry), now (ys .entry), now (radii .entry)) r
-        (now (xs .exit), now (ys .exit), now (radii .exit)) ⌝ }
+    ensures { λ r. ⌜ RunSplit (now (circles .entry)) (now (xs .entry), now (ys .entry), now (radii .entry), now (inks .entry)) r
+        (now (xs .exit), now (ys .exit), now (radii .exit), now (inks .exit)) ⌝ }
 {
     let end = taken(circles.len());
     let mut i: usize = 0;
@@ -26,6 +27,7 @@ pub fn split(
         xs[i] = c.center.x;
         ys[i] = c.center.y;
         radii[i] = c.radius;
+        inks[i] = c.ink;
         i = i + 1;
     }
     count_refusal(circles.len())
@@ -38,13 +40,15 @@ pub fn split_array(
     xs: &mut [f64; MAX_CIRCLES],
     ys: &mut [f64; MAX_CIRCLES],
     radii: &mut [f64; MAX_CIRCLES],
+    inks: &mut [u16; MAX_CIRCLES],
 ) -> u8
-    ensures { λ r. ⌜ Split n (take n circles) (now (xs .entry), now (ys .entry), now (radii .entry)) r (now (xs .exit), now (ys .exit), now (radii .exit)) ⌝ }
+    ensures { λ r. ⌜ Split n (take n circles) (now (xs .entry), now (ys .entry), now (radii .entry), now (inks .entry)) r
+        (now (xs .exit), now (ys .exit), now (radii .exit), now (inks .exit)) ⌝ }
 {
     if too_many(n) {
         return 1;
     }
-    split_front(circles, n, xs, ys, radii);
+    split_front(circles, n, xs, ys, radii, inks);
     0
 }
 
@@ -54,16 +58,20 @@ fn split_front(
     xs: &mut [f64],
     ys: &mut [f64],
     radii: &mut [f64],
+    inks: &mut [u16],
 )
-    requires { ⌜ (n ≤ maxCircles) × (length (now xs) ≡ maxCircles) × (length (now ys) ≡ maxCircles) × (length (now radii) ≡ maxCircles) ⌝ }
-    ensures { λ _. ⌜ Written (take n circles) (now (xs .entry), now (ys .entry), now (radii .entry)) (now (xs .exit), now (ys .exit), now (radii .exit)) ⌝ }
+    requires { ⌜ (n ≤ maxCircles) × (length (now xs) ≡ maxCircles) × (length (now ys) ≡ maxCircles) × (length (now radii) ≡ maxCircles)
+        × (length (now inks) ≡ maxCircles) ⌝ }
+    ensures { λ _. ⌜ Written (take n circles) (now (xs .entry), now (ys .entry), now (radii .entry), now (inks .entry))
+        (now (xs .exit), now (ys .exit), now (radii .exit), now (inks .exit)) ⌝ }
 {
     let mut i: usize = 0;
     while i < n {
-        let c = circles[i];
-        xs[i] = c.center.x;
-        ys[i] = c.center.y;
-        radii[i] = c.radius;
+        let circle = circles[i];
+        xs[i] = circle.center.x;
+        ys[i] = circle.center.y;
+        radii[i] = circle.radius;
+        inks[i] = circle.ink;
         i += 1;
     }
 }

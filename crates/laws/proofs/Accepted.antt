@@ -1,20 +1,22 @@
 -- A layout is accepted exactly if its inputs keep every limit and range, circle by circle.
-use Prim.Native.Nat.{ℕ, _≤_, _<_}
-use mathlib.Core.Path.{_≡_}
-use mathlib.Core.Logic.{_↔_, Iff·trans}
+use Prim.Native.Nat.{ℕ, zero, suc, _≤_, _<_}
+use mathlib.Core.Path.{_≡_, refl, sym, ap, _∙_}
+use native.Mathlib.Omega.{arith}
+use mathlib.Core.Logic.{_↔_, _⊎_, Iff·trans, inl, inr, ⊎-elim}
 use mathlib.Core.Bool.{Bool, _&&_}
-use mathlib.Core.List.{List}
-use lib.ListN.{length}
+use mathlib.Core.List.{List, [], _∷_}
+use lib.ListN.{length, getD}
 use lib.Dec.{T, eqb}
 use lib.Ieee.{Float}
 use Rattle.shapes.specs.declared.point.Point.{Point}
 use Rattle.shapes.specs.declared.circle.Circle.{Circle}
 use Rattle.scope.specs.Runs.{any}
 use Rattle.scope.specs.Limits.{circleCap, regionCap, coordinateOk, radiusOk, factorOk}
-use Rattle.scope.specs.Refusals.{tooMany, unequal, tooManyRegions, badPoint, badCentre, badRadius, rising, badFactor, layoutRefusal}
+use Rattle.scope.specs.Refusals.{tooMany, unequal, tooManyRegions, badPoint, badCentre, badRadius, rising, badFactor, repeated, inks, sameInk, layoutRefusal}
 use Rattle.scope.specs.Links.{circle, nowhere}
-use Rattle.laws.proofs.Cases.{and-iff, not-not-iff, not-ltb-iff, eqb-iff}
-use Rattle.laws.proofs.Runs.{none-at}
+use Rattle.laws.specs.Limits.{WithinLimits, SameInk}
+use Rattle.laws.proofs.Cases.{or-iff, and-iff, not-not-iff, not-ltb-iff, eqb-iff}
+use Rattle.laws.proofs.Runs.{any-at, none-at}
 use Rattle.laws.proofs.EntryPoints.{layout-reads}
 
 -- ---- each cause, denied
@@ -47,6 +49,48 @@ pub not-bad-factor-iff : (x : Float) → (¬ T (badFactor x)) ↔ T (factorOk x)
 unfolding badFactor
 not-bad-factor-iff x = not-not-iff (factorOk x)
 
+-- the inks of circles, one by one; that of a circle that is nowhere is 0
+pub length-inks : (cs : List Circle) → length (inks cs) ≡ length cs
+unfolding inks
+length-inks [] = refl
+length-inks (c ∷ cs) = ap suc (length-inks cs)
+
+pub ink-at : (cs : List Circle) (i : ℕ) → getD (inks cs) i 0 ≡ circle cs i .ink
+unfolding inks nowhere
+ink-at [] i = refl
+ink-at (c ∷ cs) zero = refl
+ink-at (c ∷ cs) (suc i) = ink-at cs i
+
+-- a number stands twice in a list
+abbrev Twice : List ℕ → Type 0
+Twice ks = (i : ℕ) × (j : ℕ) × (i < j) × (j < length ks) × (getD ks i 0 ≡ getD ks j 0)
+
+repeated-iff : (ks : List ℕ) → T (repeated ks) ↔ Twice ks
+unfolding repeated
+repeated-iff [] = (λ t. absurd t, λ f. let l = f .3 in absurd (omega arith))
+repeated-iff (k ∷ ks) =
+    let rest = repeated-iff ks in (
+      λ t. ⊎-elim (λ u. let f = any-at (eqb k) ks 0 .0 u in (0, suc (f .0), omega arith, omega (arith, f .1), eqb-iff k (getD ks (f .0) 0) .0 (f .2)))
+          (λ u. let f = rest .0 u in (suc (f .0), suc (f .1), omega (arith, f .2), omega (arith, f .3), f .4)) (or-iff (any (eqb k) ks) (repeated ks) .0 t),
+      λ f. or-iff (any (eqb k) ks) (repeated ks) .1 (found (rest .1) (f .0) (f .1) (f .2) (f .3) (f .4)),
+    )
+  where
+    found : (Twice ks → T (repeated ks)) → (i j : ℕ) → i < j → j < suc (length ks) → getD (k ∷ ks) i 0 ≡ getD (k ∷ ks) j 0 → T (any (eqb k) ks) ⊎ T (repeated ks)
+    found again i zero l m e = absurd (omega arith)
+    found again zero (suc j) l m e = inl (any-at (eqb k) ks 0 .1 (j, omega arith, eqb-iff k (getD ks j 0) .1 e))
+    found again (suc i) (suc j) l m e = inr (again (i, j, omega arith, omega arith, e))
+
+-- 14 has its cause exactly if two circles have the same ink
+pub same-ink-iff : (cs : List Circle) → T (sameInk cs) ↔ SameInk cs
+unfolding sameInk
+same-ink-iff cs = Iff·trans (repeated-iff (inks cs)) (
+  λ f. (f .0, f .1, f .2, rw (length-inks cs) at (f .3), sym (ink-at cs (f .0)) ∙ f .4 ∙ ink-at cs (f .1)),
+  λ f. (f .0, f .1, f .2, rw (length-inks cs) (f .3), ink-at cs (f .0) ∙ f .4 ∙ sym (ink-at cs (f .1))),
+)
+
+not-same-ink-iff : (cs : List Circle) → (¬ T (sameInk cs)) ↔ (¬ SameInk cs)
+not-same-ink-iff cs = let e = same-ink-iff cs in (λ h f. h (e .1 f), λ h t. h (e .0 t))
+
 -- each circle of a layout passes
 none-bad-iff : (bad : Circle → Bool) (Good : Circle → Type 0) → ((c : Circle) → (¬ T (bad c)) ↔ Good c) → (cs : List Circle)
     → (¬ T (any bad cs)) ↔ ((i : ℕ) → i < length cs → Good (circle cs i))
@@ -55,16 +99,8 @@ none-bad-iff bad Good e cs =
 
 -- ---- all of them
 
-pub record Accepted (cs : List Circle) (factor : Float) (masks : List ℕ) (areas : List Float) : Type 0 where
-  pub few-circles : length cs ≤ circleCap
-  pub paired : length masks ≡ length areas
-  pub few-regions : length masks ≤ regionCap
-  pub centres : (i : ℕ) → i < length cs → T (coordinateOk (circle cs i .center .x)) × T (coordinateOk (circle cs i .center .y))
-  pub radii : (i : ℕ) → i < length cs → T (radiusOk (circle cs i .radius))
-  pub masks-rise : T (rising masks)
-  pub factor-inside : T (factorOk factor)
-
-pub layout-accepted-iff : (cs : List Circle) (factor : Float) (masks : List ℕ) (areas : List Float) → (layoutRefusal cs factor masks areas ≡ 0) ↔ Accepted cs factor masks areas
+pub layout-accepted-iff : (cs : List Circle) (factor : Float) (masks : List ℕ) (areas : List Float)
+    → (layoutRefusal cs factor masks areas ≡ 0) ↔ (WithinLimits cs factor masks areas × (¬ SameInk cs))
 layout-accepted-iff cs factor masks areas =
     let circles = not-too-many-iff (length cs) in
     let lists = not-unequal-iff masks areas in
@@ -73,15 +109,38 @@ layout-accepted-iff cs factor masks areas =
     let radii = none-bad-iff badRadius (λ c. T (radiusOk (c .radius))) not-bad-radius-iff cs in
     let order = not-not-iff (rising masks) in
     let inside = not-bad-factor-iff factor in
+    let different = not-same-ink-iff cs in
     Iff·trans (layout-reads cs factor masks areas .accepted) (
-      λ h. record {
-        few-circles = circles .0 (h .0);
-        paired = lists .0 (h .1 .0);
-        few-regions = regions .0 (h .1 .1 .0);
-        centres = centres .0 (h .1 .1 .1 .0);
-        radii = radii .0 (h .1 .1 .1 .1 .0);
-        masks-rise = order .0 (h .1 .1 .1 .1 .1 .0);
-        factor-inside = inside .0 (h .1 .1 .1 .1 .1 .1 .0);
-      },
-      λ a. (circles .1 (a .few-circles), (lists .1 (a .paired), (regions .1 (a .few-regions), (centres .1 (a .centres), (radii .1 (a .radii), (order .1 (a .masks-rise), (inside .1 (a .factor-inside), tt))))))),
+      λ h. (
+        record {
+          few-circles = circles .0 (h .0);
+          paired = lists .0 (h .1 .0);
+          few-regions = regions .0 (h .1 .1 .0);
+          centres = centres .0 (h .1 .1 .1 .0);
+          radii = radii .0 (h .1 .1 .1 .1 .0);
+          masks-rise = order .0 (h .1 .1 .1 .1 .1 .0);
+          factor-inside = inside .0 (h .1 .1 .1 .1 .1 .1 .0);
+        },
+        different .0 (h .1 .1 .1 .1 .1 .1 .1 .0),
+      ),
+      λ a. (
+        circles .1 (a .0 .few-circles),
+        (
+          lists .1 (a .0 .paired),
+          (
+            regions .1 (a .0 .few-regions),
+            (
+              centres .1 (a .0 .centres),
+              (
+                radii .1 (a .0 .radii),
+                (order .1 (a .0 .masks-rise), (inside .1 (a .0 .factor-inside), (different .1 (a .1), tt))),
+              ),
+            ),
+          ),
+        ),
+      ),
     )
+
+-- what the steps of a layout need of it
+pub within-limits : (cs : List Circle) (factor : Float) (masks : List ℕ) (areas : List Float) → layoutRefusal cs factor masks areas ≡ 0 → WithinLimits cs factor masks areas
+within-limits cs factor masks areas h = layout-accepted-iff cs factor masks areas .0 h .0

@@ -4,7 +4,7 @@ use mathlib.Core.Path.{_≡_, refl, sym, ap, _∙_}
 use mathlib.Core.Logic.{inl, inr}
 use mathlib.Core.List.{List, [], _∷_, _++_}
 use native.Mathlib.Omega.{arith}
-use native.Mathlib.Nat.{pow-succ', div-one, div-div-eq-div-mul, lt-of-lt-of-le}
+use native.Mathlib.Nat.{pow-succ', div-one, div-div-eq-div-mul}
 use lib.Dec.{ltb, ltb→lt, lt→ltb, lit≤}
 use lib.ListN.{length, length-append}
 use Rattle.algebra.proofs.Size.{either}
@@ -96,12 +96,6 @@ pub decimal-length : (k n : ℕ) → n < 10 ^ suc k → length (decimal n) ≤ s
 decimal-length k n h =
     let long = length-tab (suc (before-last n)) (λ i. 48 + n / 10 ^ (before-last n - i) % 10) in
     omega (arith, ap length (decimal-is n), before-last-at-most k n h)
-
-pub byte-length : (n : ℕ) → n < 256 → length (decimal n) ≤ 3
-byte-length n h = decimal-length 2 n (lt-of-lt-of-le h (lit≤ tt))
-
-pub word-length : (n : ℕ) → n < 2 ^ 64 → length (decimal n) ≤ 20
-word-length n h = decimal-length 19 n (lt-of-lt-of-le h (lit≤ tt))
 
 -- ---- the number that digits stand for, n digits before them; a byte below the digit 0 counts as one
 

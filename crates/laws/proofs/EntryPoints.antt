@@ -12,7 +12,7 @@ use Rattle.shapes.specs.declared.circle.Circle.{Circle}
 use Rattle.shapes.specs.declared.rectangle.Rectangle.{Rectangle}
 use Rattle.scope.specs.Runs.{any}
 use Rattle.scope.specs.Limits.{circleCap}
-use Rattle.scope.specs.Refusals.{causes, causeHolds, first, refusal, frontToBack, tooMany, unequal, tooManyRegions, badPoint, badCentre, badRadius, rising, badFactor, badSide, badPadding, pointsRefusal, pairRefusal, circlePointRefusal, circlesRefusal, regionsRefusal, columnsRefusal, packRefusal, containerRefusal, layoutRefusal}
+use Rattle.scope.specs.Refusals.{causes, causeHolds, first, refusal, frontToBack, tooMany, unequal, tooManyRegions, badPoint, badCentre, badRadius, rising, badFactor, badSide, badPadding, sameInk, pointsRefusal, pairRefusal, circlePointRefusal, circlesRefusal, regionsRefusal, columnsRefusal, packRefusal, containerRefusal, layoutRefusal}
 use Rattle.scope.specs.Distance.{noRoot, rootRefusal}
 use Rattle.scope.specs.CardFile.{Card, tag, headCut, bodyCut, unknown, wrongLength, misplaced, fieldRefusal, firstRefusal, nextRefusal}
 use Rattle.laws.specs.BothWays.{Reads}
@@ -34,7 +34,7 @@ pub circle-point-reads : (c : Circle) (p : Point) → Reads (circlePointRefusal 
 unfolding circlePointRefusal refusal first causeHolds causes frontToBack
 circle-point-reads c p = as-front-to-back _ tt (simp or-false)
 
-pub circles-reads : (cs : List Circle) → Reads (circlesRefusal cs) ((1, tooMany (length cs)) ∷ (3, any badCentre cs) ∷ (4, any badRadius cs) ∷ [])
+pub circles-reads : (cs : List Circle) → Reads (circlesRefusal cs) ((1, tooMany (length cs)) ∷ (3, any badCentre cs) ∷ (4, any badRadius cs) ∷ (14, sameInk cs) ∷ [])
 unfolding circlesRefusal refusal first causeHolds causes frontToBack
 circles-reads cs = as-front-to-back _ tt (simp or-false)
 
@@ -54,14 +54,14 @@ pack-reads rects padding = as-front-to-back _ tt (simp or-false)
 
 pub container-reads : (cs : List Circle) (container : Rectangle)
     → Reads (containerRefusal cs container)
-    ((1, tooMany (length cs)) ∷ (3, any badCentre cs || badPoint (container .center)) ∷ (4, any badRadius cs) ∷ (7, badSide container) ∷ [])
+    ((1, tooMany (length cs)) ∷ (3, any badCentre cs || badPoint (container .center)) ∷ (4, any badRadius cs) ∷ (7, badSide container) ∷ (14, sameInk cs) ∷ [])
 unfolding containerRefusal refusal first causeHolds causes frontToBack
 container-reads cs container = as-front-to-back _ tt (simp or-false)
 
 pub layout-reads : (cs : List Circle) (factor : Float) (masks : List ℕ) (areas : List Float)
     → Reads (layoutRefusal cs factor masks areas)
     ((1, tooMany (length cs)) ∷ (13, unequal masks areas) ∷ (2, tooManyRegions (length masks)) ∷ (3, any badCentre cs) ∷ (4, any badRadius cs)
-    ∷ (5, not (rising masks)) ∷ (6, badFactor factor) ∷ [])
+    ∷ (5, not (rising masks)) ∷ (6, badFactor factor) ∷ (14, sameInk cs) ∷ [])
 unfolding layoutRefusal refusal first causeHolds causes frontToBack
 layout-reads cs factor masks areas = as-front-to-back _ tt (simp or-false)
 

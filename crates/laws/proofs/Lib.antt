@@ -20,4 +20,5 @@ pub mod ByValue
 pub mod Decimal
 pub mod CardTexts
 pub mod Accepted
+pub mod Inks
 pub mod MaskBits

@@ -7,11 +7,11 @@ use lib.Ieee.{Float}
 use Rattle.shapes.specs.declared.circle.Circle.{Circle}
 use Rattle.shapes.specs.declared.rectangle.Rectangle.{Rectangle}
 use Rattle.scope.specs.Runs.{any}
-use Rattle.scope.specs.Refusals.{Checks, tooMany, unequal, tooManyRegions, badPoint, badCentre, badRadius, rising, badFactor, badSide, badPadding}
+use Rattle.scope.specs.Refusals.{Checks, tooMany, unequal, tooManyRegions, badPoint, badCentre, badRadius, rising, badFactor, badSide, badPadding, sameInk}
 
 -- `find_clusters`
 abbrev pub firstCirclesChecks : ℕ → List Circle → Checks
-firstCirclesChecks n cs = (1, tooMany n) ∷ (3, any badCentre (take n cs)) ∷ (4, any badRadius (take n cs)) ∷ []
+firstCirclesChecks n cs = (1, tooMany n) ∷ (3, any badCentre (take n cs)) ∷ (4, any badRadius (take n cs)) ∷ (14, sameInk (take n cs)) ∷ []
 
 -- packing
 abbrev pub firstPackChecks : ℕ → List Rectangle → Float → Checks
@@ -20,10 +20,11 @@ firstPackChecks n rects padding = (1, tooMany n) ∷ (7, any badSide (take n rec
 -- `normalize_layout_with_container`
 abbrev pub firstContainerChecks : ℕ → List Circle → Rectangle → Checks
 firstContainerChecks n cs container =
-    (1, tooMany n) ∷ (3, any badCentre (take n cs) || badPoint (container .center)) ∷ (4, any badRadius (take n cs)) ∷ (7, badSide container) ∷ []
+    (1, tooMany n) ∷ (3, any badCentre (take n cs) || badPoint (container .center)) ∷ (4, any badRadius (take n cs)) ∷ (7, badSide container)
+    ∷ (14, sameInk (take n cs)) ∷ []
 
 -- the whole layout
 abbrev pub firstLayoutChecks : ℕ → List Circle → Float → List ℕ → List Float → Checks
 firstLayoutChecks n cs factor masks areas =
     (1, tooMany n) ∷ (13, unequal masks areas) ∷ (2, tooManyRegions (length masks)) ∷ (3, any badCentre (take n cs)) ∷ (4, any badRadius (take n cs))
-    ∷ (5, not (rising masks)) ∷ (6, badFactor factor) ∷ []
+    ∷ (5, not (rising masks)) ∷ (6, badFactor factor) ∷ (14, sameInk (take n cs)) ∷ []

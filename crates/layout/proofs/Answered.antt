@@ -9,10 +9,11 @@ use lib.Ieee.{Float}
 use lib.ListN.{length, take}
 use Rattle.shapes.specs.declared.circle.Circle.{Circle}
 use Rattle.scope.specs.Limits.{circleCap}
-use Rattle.scope.specs.Refusals.{tooMany}
+use Rattle.scope.specs.Refusals.{tooMany, inks}
+use Rattle.laws.proofs.Accepted.{length-inks}
 use Rattle.intake.specs.Limits.{maxCircles}
 use Rattle.intake.specs.CauseWords.{front}
-use Rattle.intake.specs.Columns.{circlesOf, xsOf, ysOf, radiiOf}
+use Rattle.intake.specs.Columns.{xsOf, ysOf, radiiOf}
 use Rattle.laws.proofs.Counted.{few, none-counted, of-run}
 use Rattle.intake.proofs.Columns.{length-radii}
 use Rattle.intake.proofs.Splitting.{splitOf, front-of-column, front-shown}
@@ -25,19 +26,19 @@ pub record Answering (number : List Circle → ℕ) (after : List Circle → Lis
   pub many : (cs : List Circle) → tooMany (length cs) ≡ true → number cs ≡ 1
   pub stays : (cs : List Circle) → (number cs ≡ 0 → ⊥) → after cs ≡ cs
 
-module _ (cs : List Circle) (zs : List Float) where
+module _ (cs : List Circle) (zs : List Float) (ws : List ℕ) where
   abbrev n : ℕ
   n = length cs
 
   -- the run as its arrays show it
   abbrev pub shownAgain : List Circle
-  shownAgain = front n (splitOf xsOf cs zs) (splitOf ysOf cs zs) (splitOf radiiOf cs zs)
+  shownAgain = front n (splitOf xsOf cs zs) (splitOf ysOf cs zs) (splitOf radiiOf cs zs) (splitOf inks cs ws)
 
   pub run-back : tooMany n ≡ false → shownAgain ≡ cs
-  run-back h = rw h (front-shown n cs zs zs zs refl)
+  run-back h = rw h (front-shown n cs zs zs zs ws refl)
 
   module _ {number : List Circle → ℕ} {after : List Circle → List Circle} (by : Answering number after) (r : ℕ) (xs′ ys′ : List Float)
-      (answered : Answered number after (splitOf xsOf cs zs) (splitOf ysOf cs zs) (splitOf radiiOf cs zs) n r xs′ ys′) where
+      (answered : Answered number after (splitOf xsOf cs zs) (splitOf ysOf cs zs) (splitOf radiiOf cs zs) (splitOf inks cs ws) n r xs′ ys′) where
     pub answered-number : r ≡ number cs
     unfolding Answered
     answered-number = of-run n cs shownAgain number 1 r run-back (by .many cs) (answered .0)
@@ -55,11 +56,12 @@ module _ (cs : List Circle) (zs : List Float) where
     ]
 
     -- after an acceptance they are the circles that the core's lists show
-    pub answered-shown : r ≡ 0 → recentred (writtenOf r n) xs′ ys′ cs ≡ front n xs′ ys′ (splitOf radiiOf cs zs)
+    pub answered-shown : r ≡ 0 → recentred (writtenOf r n) xs′ ys′ cs ≡ front n xs′ ys′ (splitOf radiiOf cs zs) (splitOf inks cs ws)
     unfolding Answered
     answered-shown z =
         let radii : take n (splitOf radiiOf cs zs) ≡ radiiOf cs = rw (not-many z) (front-of-column n (radiiOf cs) zs (length-radii cs)) in
-        rw (written-all r n z, recentred-all n xs′ ys′ cs refl (answered .2 z)) (ap (circlesOf (take n xs′) (take n ys′)) (sym radii))
+        let numbers : take n (splitOf inks cs ws) ≡ inks cs = rw (not-many z) (front-of-column n (inks cs) ws (length-inks cs)) in
+        rw (written-all r n z, recentred-all n xs′ ys′ cs refl (answered .2 z), radii, numbers)
 
     -- and what stands there then are the answer's circles
     pub answered-run : recentred (writtenOf r n) xs′ ys′ cs ≡ after cs

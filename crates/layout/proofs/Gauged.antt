@@ -9,13 +9,13 @@ use lib.Seq.{ext-getD}
 use lib.Ieee.{Float, nan}
 use borrow.Author.Tests.{lt-ltb, le-ltb}
 use Rattle.shapes.specs.declared.circle.Circle.{Circle}
-use Rattle.shapes.specs.Records.{pointAt, circleOf}
+use Rattle.shapes.specs.Records.{pointAt}
 use Rattle.scope.specs.Numbers.{_-ᶠ_, _*ᶠ_, _<ᶠ_, two}
 use Rattle.scope.specs.Runs.{least}
 use Rattle.scope.specs.Gauge.{level, turn, changed, rotated, turned, mirrorX, mirrorY, mirroredX, mirroredY, rotateCluster}
 use Rattle.scope.specs.Links.{circle}
 use Rattle.scope.specs.Gauge as gauge
-use Rattle.intake.specs.Columns.{at, circlesOf, members, Lifted}
+use Rattle.intake.specs.Columns.{bareCircle, at, circlesOf, members, Lifted}
 use Rattle.intake.proofs.Columns.{length-shown, shown-at, shown-equal, length-members, members-at}
 use Rattle.intake.proofs.InPlace.{either-length}
 use Rattle.layout.specs.Ranges.{rangeOver, middleOf}
@@ -73,17 +73,17 @@ module _ (member : ℕ → Bool) (xs ys rs : List Float) (even : length ys ≡ l
   cs = circlesOf xs ys rs
 
   both-changed : (fx fy : ℕ → Float → Float) (f : Circle → Circle)
-      → ((i : ℕ) → i < length xs → f (circleOf (at xs i) (at ys i) (at rs i)) ≡ circleOf (fx i (at xs i)) (fy i (at ys i)) (at rs i))
+      → ((i : ℕ) → i < length xs → f (bareCircle (at xs i) (at ys i) (at rs i)) ≡ bareCircle (fx i (at xs i)) (fy i (at ys i)) (at rs i))
       → circlesOf (members member fx xs) (members member fy ys) rs ≡ changed member f cs
   unfolding changed
   both-changed fx fy f same =
       rw (length-shown xs ys rs)
       (shown-equal _ _ rs (length xs) (λ i. cond (member i) (f (circle cs i)) (circle cs i)) (length-members member fx xs)
-      (λ i h. rw (shown-at xs ys rs i h, same i h, members-at member fx xs i h, members-at member fy ys i (rw even h)) (either-both (λ x y. circleOf x y (at rs i)) (member i) _ _ _ _)))
+      (λ i h. rw (shown-at xs ys rs i h, same i h, members-at member fx xs i h, members-at member fy ys i (rw even h)) (either-both (λ x y. bareCircle x y (at rs i)) (member i) _ _ _ _)))
 
   -- both coordinates changed, or neither
   changed-if : (b : Bool) (fx fy : ℕ → Float → Float) (f : Circle → Circle)
-      → ((k : ℕ) → k < length xs → f (circleOf (at xs k) (at ys k) (at rs k)) ≡ circleOf (fx k (at xs k)) (fy k (at ys k)) (at rs k))
+      → ((k : ℕ) → k < length xs → f (bareCircle (at xs k) (at ys k) (at rs k)) ≡ bareCircle (fx k (at xs k)) (fy k (at ys k)) (at rs k))
       → circlesOf (cond b (members member fx xs) xs) (cond b (members member fy ys) ys) rs ≡ cond b (changed member f cs) cs
   changed-if b fx fy f same = either-both (λ l m. circlesOf l m rs) b _ xs _ ys ∙ ap (λ (l : List Circle). cond b l cs) (both-changed fx fy f same)
 

@@ -54,16 +54,18 @@ module _ (cs : List Circle) (p i : ℕ) where
     unfolding repositioned
     repositioned-by c f = rw (f, e, d, a, b)
 
-  pub moved-radius : (c : Circle) → some c ≡ repositioned cs p i → c .radius ≡ lift (circle cs i .radius)
+  -- a moved child has its radius, lifted, and its ink
+  pub moved-kept : (c : Circle) → some c ≡ repositioned cs p i → (c .radius ≡ lift (circle cs i .radius)) × (c .ink ≡ circle cs i .ink)
   unfolding repositioned childAt translated
-  moved-radius c e =
+  moved-kept c e =
       let parent = circle cs p in
       let small = circle cs i in
       let u = direction parent small in
       let dMax = maxContainedOffset parent small u in
       let m = childAt parent small u (half *ᶠ dMax) in
       let stays = ((dMax ≤ᶠ nought) || there (move parent small u (half *ᶠ dMax)) dMax) || not (contains parent m) || blocked cs p i m in
-      ap (λ (o : Circle). o .radius) (the-moved stays m e)
+      let same = the-moved stays m e in
+      (ap (λ (o : Circle). o .radius) same, ap (λ (o : Circle). o .ink) same)
     where
       the-moved : (stays : Bool) (m : Circle) → some c ≡ cond stays none (some m) → c ≡ m
       the-moved true m e = let z : _≡_ {A = ℕ} 0 1 = cc in absurd (omega arith)
@@ -72,8 +74,8 @@ module _ (cs : List Circle) (p i : ℕ) where
 -- ---- one circle of the lists put elsewhere
 
 module _ (xs ys rs : List Float) (i : ℕ) (c : Circle) (long : length ys ≡ length xs) (h : i < length xs) where
-  pub one-moved : c .radius ≡ at rs i → circlesOf (set xs i (c .center .x)) (set ys i (c .center .y)) rs ≡ set (circlesOf xs ys rs) i c
-  one-moved e =
+  pub one-moved : c .radius ≡ at rs i → c .ink ≡ 0 → circlesOf (set xs i (c .center .x)) (set ys i (c .center .y)) rs ≡ set (circlesOf xs ys rs) i c
+  one-moved e k =
       ext-getD nowhere _ _ (length-shown _ _ rs ∙ length-set xs i (c .center .x) ∙ sym (length-set (circlesOf xs ys rs) i c ∙ length-shown xs ys rs))
       (λ j l. there-or-not j (rw (length-shown (set xs i (c .center .x)) (set ys i (c .center .y)) rs, length-set xs i (c .center .x)) at l))
     where
@@ -81,7 +83,7 @@ module _ (xs ys rs : List Float) (i : ℕ) (c : Circle) (long : length ys ≡ le
       there-or-not j l =
           shown-at (set xs i (c .center .x)) (set ys i (c .center .y)) rs j (rw (length-set xs i (c .center .x)) l)
           ∙ elim (ℕ-discrete j i) [
-            | yes d ↦ rw (d, getD-set-same xs i (c .center .x) nan h, getD-set-same ys i (c .center .y) nan (rw long h), ← e, getD-set-same (circlesOf xs ys rs) i c nowhere (rw (length-shown xs ys rs) h))
+            | yes d ↦ rw (d, getD-set-same xs i (c .center .x) nan h, getD-set-same ys i (c .center .y) nan (rw long h), ← e, ← k, getD-set-same (circlesOf xs ys rs) i c nowhere (rw (length-shown xs ys rs) h))
             | no d ↦ rw (getD-set-other xs i j (c .center .x) nan d, getD-set-other ys i j (c .center .y) nan d, getD-set-other (circlesOf xs ys rs) i j c nowhere d) (sym (shown-at xs ys rs j l))
           ]
 
@@ -92,11 +94,13 @@ moved-known m c o e h = rw (← e) at h
 pub stays-known : (m : Repositioned) (o : Option Circle) → child.Stays ≡ m → moved m ≡ o → none ≡ o
 stays-known m o e h = rw (← e) at h
 
--- the radius of a moved child is what it was
+-- a moved child, written over its place in the lists
 pub child-moved : (xs ys rs : List Float) (p i : ℕ) (c : Circle) → length ys ≡ length xs → i < length xs → Lifted rs → some c ≡ repositioned (circlesOf xs ys rs) p i
     → circlesOf (set xs i (c .center .x)) (set ys i (c .center .y)) rs ≡ set (circlesOf xs ys rs) i c
 child-moved xs ys rs p i c long h lifted e =
-    one-moved xs ys rs i c long h (moved-radius (circlesOf xs ys rs) p i c e ∙ ap (λ (o : Circle). lift (o .radius)) (shown-at xs ys rs i h) ∙ lifted i)
+    let kept = moved-kept (circlesOf xs ys rs) p i c e in
+    one-moved xs ys rs i c long h (kept .0 ∙ ap (λ (o : Circle). lift (o .radius)) (shown-at xs ys rs i h) ∙ lifted i)
+    (kept .1 ∙ ap (λ (o : Circle). o .ink) (shown-at xs ys rs i h))
 
 -- ---- one circle tried
 

@@ -8,14 +8,14 @@ use lib.ListN.{length}
 use lib.Ieee.{Float}
 use Rattle.shapes.specs.declared.bounds.Bounds.{Bounds}
 use Rattle.shapes.specs.declared.circle.Circle.{Circle}
-use Rattle.shapes.specs.Records.{boxOf, circleOf}
+use Rattle.shapes.specs.Records.{boxOf}
 use Rattle.shapes.specs.Boxes.{circleBox, unionOf}
 use Rattle.scope.specs.Runs.{gather}
 use Rattle.scope.specs.Links.{circle}
 use Rattle.scope.specs.Gauge.{nothing, pointBox, centresBox}
 use Rattle.scope.specs.Padding.{boxAll}
 use Rattle.laws.proofs.Runs.{gather-equal}
-use Rattle.intake.specs.Columns.{at, circlesOf}
+use Rattle.intake.specs.Columns.{bareCircle, at, circlesOf}
 use Rattle.intake.proofs.Columns.{length-shown, shown-at}
 use Rattle.layout.specs.Ranges.{noRange, widened, rangeOver, rangeOf}
 use Rattle.layout.specs.declared.axis.Range.{Range}
@@ -53,13 +53,13 @@ module _ (member : ℕ → Bool) (xs ys rs : List Float) (even : length ys ≡ l
   cs = circlesOf xs ys rs
 
   -- the boxes of the circles shown, by their numbers
-  shown-box : (f : Circle → Bounds) → gather unionOf nothing member (length cs) (λ i. f (circle cs i)) ≡ gather unionOf nothing member (length xs) (λ i. f (circleOf (at xs i) (at ys i) (at rs i)))
+  shown-box : (f : Circle → Bounds) → gather unionOf nothing member (length cs) (λ i. f (circle cs i)) ≡ gather unionOf nothing member (length xs) (λ i. f (bareCircle (at xs i) (at ys i) (at rs i)))
   shown-box f = rw (length-shown xs ys rs) (gather-equal unionOf nothing member member (length xs) _ _ (λ i h. refl) (λ i h. ap f (shown-at xs ys rs i h)))
 
   pub circles-box : boxAll member cs ≡ boxOfRanges (rangeOf member xs rs) (rangeOf member ys rs)
   unfolding boxAll
-  circles-box = rw even (shown-box circleBox ∙ gathered-box member (length xs) (λ i. circleBox (circleOf (at xs i) (at ys i) (at rs i))))
+  circles-box = rw even (shown-box circleBox ∙ gathered-box member (length xs) (λ i. circleBox (bareCircle (at xs i) (at ys i) (at rs i))))
 
   pub centres-box : centresBox member cs ≡ boxOfRanges (rangeOver member (length xs) (at xs) (at xs)) (rangeOver member (length ys) (at ys) (at ys))
   unfolding centresBox
-  centres-box = rw even (shown-box (λ c. pointBox (c .center)) ∙ gathered-box member (length xs) (λ i. pointBox (circleOf (at xs i) (at ys i) (at rs i) .center)))
+  centres-box = rw even (shown-box (λ c. pointBox (c .center)) ∙ gathered-box member (length xs) (λ i. pointBox (bareCircle (at xs i) (at ys i) (at rs i) .center)))

@@ -1,7 +1,7 @@
 -- A run whose first centres are written over: none, all of them, and how many.
 use Prim.Native.Nat.{ℕ, zero, suc, _+_, _<_, _≤_}
 use native.Mathlib.Omega.{arith}
-use mathlib.Core.Path.{_≡_, refl, sym, ap, _∙_}
+use mathlib.Core.Path.{_≡_, refl, ap, _∙_}
 use mathlib.Core.List.{List, [], _++_, append-nil}
 use lib.Ieee.{Float, nan}
 use lib.ListN.{length, getD, set, take, drop}
@@ -9,10 +9,13 @@ use lib.Seq.{drop-length, getD-take, length-take-le}
 use Rattle.shapes.specs.declared.circle.Circle.{Circle}
 use Rattle.scope.specs.Runs.{tab}
 use Rattle.scope.specs.Links.{circle, nowhere}
+use Rattle.scope.specs.Refusals.{inks}
+use Rattle.laws.specs.Inks.{withInk, inked}
 use Rattle.laws.proofs.Runs.{length-tab, tab-equal}
+use Rattle.laws.proofs.Accepted.{ink-at}
 use Rattle.shapes.specs.Records.{circleOf}
 use Rattle.intake.specs.Columns.{at, circlesOf, radiiOf}
-use Rattle.intake.proofs.Columns.{shown-equal, radius-at}
+use Rattle.intake.proofs.Columns.{length-shown, shown-at, radius-at}
 use Rattle.intake.proofs.InPlace.{over-length, rewritten, so-far, none-rewritten, one-rewritten, all-rewritten}
 use Rattle.layout.specs.Recentred.{recentred, writtenOf}
 
@@ -30,20 +33,23 @@ pub recentred-none : (xs ys : List Float) (cs : List Circle) → recentred 0 xs 
 unfolding recentred tab
 recentred-none xs ys cs = refl
 
--- all of them: the circles that the lists show, with the run's radii
-pub recentred-all : (n : ℕ) (xs ys : List Float) (cs : List Circle) → n ≡ length cs → length (take n xs) ≡ n → recentred n xs ys cs ≡ circlesOf (take n xs) (take n ys) (radiiOf cs)
-unfolding recentred
+-- all of them: the circles that the lists show, with the run's radii and inks
+pub recentred-all : (n : ℕ) (xs ys : List Float) (cs : List Circle) → n ≡ length cs → length (take n xs) ≡ n
+    → recentred n xs ys cs ≡ inked (inks cs) (circlesOf (take n xs) (take n ys) (radiiOf cs))
+unfolding recentred inked
 recentred-all n xs ys cs e long =
     let none-left : drop n cs ≡ [] = rw e (drop-length cs) in
-    rw none-left
-    (append-nil (tab n (λ i. circleOf (at xs i) (at ys i) (circle cs i .radius))) ∙ sym (shown-equal (take n xs) (take n ys) (radiiOf cs) n (λ i. circleOf (at xs i) (at ys i) (circle cs i .radius)) long
-    (λ i h. rw (getD-take n xs i nan h, getD-take n ys i nan h, radius-at cs i (omega arith)))))
+    let new : ℕ → Circle = λ i. circleOf (at xs i) (at ys i) (circle cs i .radius) (circle cs i .ink) in
+    let shown = circlesOf (take n xs) (take n ys) (radiiOf cs) in
+    rw (none-left, length-shown (take n xs) (take n ys) (radiiOf cs), long)
+    (append-nil (tab n new) ∙ tab-equal n new (λ i. withInk (getD (inks cs) i 0) (circle shown i))
+    (λ i h. rw (shown-at (take n xs) (take n ys) (radiiOf cs) i (rw long h), getD-take n xs i nan h, getD-take n ys i nan h, radius-at cs i (omega arith), ink-at cs i)))
 
 -- ---- the loop that writes them: the run after i turns, and at the end
 module _ (xs ys : List Float) where
   -- a circle at the centre of place i
   abbrev pub recentre : ℕ → Circle → Circle
-  recentre i c = circleOf (at xs i) (at ys i) (c .radius)
+  recentre i c = circleOf (at xs i) (at ys i) (c .radius) (c .ink)
 
   abbrev pub reached : List Circle → ℕ → List Circle
   reached cs i = so-far recentre nowhere i cs

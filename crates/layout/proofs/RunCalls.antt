@@ -9,7 +9,7 @@ use lib.ListN.{length}
 use Rattle.shapes.specs.declared.circle.Circle.{Circle}
 use Rattle.shapes.specs.declared.rectangle.Rectangle.{Rectangle}
 use Rattle.scope.specs.Links.{regions}
-use Rattle.scope.specs.Refusals.{tooMany, frontToBack, layoutRefusal, containerRefusal}
+use Rattle.scope.specs.Refusals.{tooMany, inks, frontToBack, layoutRefusal, containerRefusal}
 use Rattle.scope.specs.Layout.{Layout, Result as Outcome, refusedLayout, layout}
 use Rattle.scope.specs.Container.{contained}
 use Rattle.scope.specs.Promises.{Promises}
@@ -61,7 +61,7 @@ many-placed container cs h =
     rw (container-answers cs container .at-refusal (is-refusal _ one), one)
 
 -- ---- a run and the arrays that it was split into
-module _ (cs : List Circle) (zs : List Float) where
+module _ (cs : List Circle) (zs : List Float) (ws : List ℕ) where
   abbrev xs : List Float
   xs = splitOf xsOf cs zs
 
@@ -71,53 +71,56 @@ module _ (cs : List Circle) (zs : List Float) where
   abbrev rs : List Float
   rs = splitOf radiiOf cs zs
 
+  abbrev is : List ℕ
+  is = splitOf inks cs ws
+
   abbrev n : ℕ
   n = length cs
 
   -- ---- the layout
-  module _ (factor : Float) (masks : List ℕ) (areas : List Float) (r : Result) (xs′ ys′ : List Float) (e : Laid xs ys rs n factor masks areas r xs′ ys′) where
-    result-said : resultOf r ≡ unlessMany n (refusedLayout 1 [] .result) (layout (front n xs ys rs) factor masks areas .result)
+  module _ (factor : Float) (masks : List ℕ) (areas : List Float) (r : Result) (xs′ ys′ : List Float) (e : Laid xs ys rs is n factor masks areas r xs′ ys′) where
+    result-said : resultOf r ≡ unlessMany n (refusedLayout 1 [] .result) (layout (front n xs ys rs is) factor masks areas .result)
     unfolding frontLayout
-    result-said = e .result ∙ chosen (λ (l : Layout). l .result) (tooMany n) (refusedLayout 1 []) (layout (front n xs ys rs) factor masks areas)
+    result-said = e .result ∙ chosen (λ (l : Layout). l .result) (tooMany n) (refusedLayout 1 []) (layout (front n xs ys rs is) factor masks areas)
 
-    laid-answered : Answered (λ l. layoutRefusal l factor masks areas) (λ l. layout l factor masks areas .circles) xs ys rs n (r .refusal) xs′ ys′
+    laid-answered : Answered (λ l. layoutRefusal l factor masks areas) (λ l. layout l factor masks areas .circles) xs ys rs is n (r .refusal) xs′ ys′
     unfolding Answered frontLayout refusedLayout
     laid-answered =
-        let number : r .refusal ≡ unlessMany n 1 (layoutRefusal (front n xs ys rs) factor masks areas) =
-        ap (λ (o : Outcome). o .refusal) result-said ∙ chosen (λ (o : Outcome). o .refusal) (tooMany n) (refusedLayout 1 [] .result) (layout (front n xs ys rs) factor masks areas .result)
-        ∙ ap (λ (k : ℕ). cond (tooMany n) 1 k) (layout-answers (front n xs ys rs) factor masks areas .says) in
+        let number : r .refusal ≡ unlessMany n 1 (layoutRefusal (front n xs ys rs is) factor masks areas) =
+        ap (λ (o : Outcome). o .refusal) result-said ∙ chosen (λ (o : Outcome). o .refusal) (tooMany n) (refusedLayout 1 [] .result) (layout (front n xs ys rs is) factor masks areas .result)
+        ∙ ap (λ (k : ℕ). cond (tooMany n) 1 k) (layout-answers (front n xs ys rs is) factor masks areas .says) in
         (number, λ z. e .circles z ∙ rw (none-counted n _ (sym number ∙ z) .0), e .long)
 
     pub laid-fits : (writtenOf (r .refusal) n ≤ n) × (writtenOf (r .refusal) n ≤ maxCircles)
-    laid-fits = answered-fits cs zs (layout-answering factor masks areas) (r .refusal) xs′ ys′ laid-answered
+    laid-fits = answered-fits cs zs ws (layout-answering factor masks areas) (r .refusal) xs′ ys′ laid-answered
 
     pub laid-lays : Lays cs factor masks areas r (recentred (writtenOf (r .refusal) n) xs′ ys′ cs)
     laid-lays =
         let by = layout-answering factor masks areas in (
-          of-run n cs (front n xs ys rs) (λ l. layout l factor masks areas .result) (refusedLayout 1 [] .result) (resultOf r) (run-back cs zs) (many-result factor masks areas cs) result-said,
-          answered-run cs zs by (r .refusal) xs′ ys′ laid-answered,
-          λ z. subst (λ (l : List Circle). Promises bound l (regions masks areas) (resultOf r) (recentred (writtenOf (r .refusal) n) xs′ ys′ cs)) (run-back cs zs (not-many cs zs by (r .refusal) xs′ ys′ laid-answered z)) (rw (answered-shown cs zs by (r .refusal) xs′ ys′ laid-answered z) (e .promises z)),
+          of-run n cs (front n xs ys rs is) (λ l. layout l factor masks areas .result) (refusedLayout 1 [] .result) (resultOf r) (run-back cs zs ws) (many-result factor masks areas cs) result-said,
+          answered-run cs zs ws by (r .refusal) xs′ ys′ laid-answered,
+          λ z. subst (λ (l : List Circle). Promises bound l (regions masks areas) (resultOf r) (recentred (writtenOf (r .refusal) n) xs′ ys′ cs)) (run-back cs zs ws (not-many cs zs ws by (r .refusal) xs′ ys′ laid-answered z)) (rw (answered-shown cs zs ws by (r .refusal) xs′ ys′ laid-answered z) (e .promises z)),
         )
 
   -- ---- the container
-  module _ (container : Rectangle) (r : Placed) (xs′ ys′ : List Float) (e : SettledAt xs ys rs n container r xs′ ys′) where
+  module _ (container : Rectangle) (r : Placed) (xs′ ys′ : List Float) (e : SettledAt xs ys rs is n container r xs′ ys′) where
     abbrev many : Placed
     many = record { refusal = 1; container = container }
 
-    placed-said : r ≡ unlessMany n many (placedOf (contained (front n xs ys rs) container))
+    placed-said : r ≡ unlessMany n many (placedOf (contained (front n xs ys rs is) container))
     unfolding frontContained
-    placed-said = e .placed ∙ chosen placedOf (tooMany n) (record { refusal = 1; container = container; circles = front n xs ys rs }) (contained (front n xs ys rs) container)
+    placed-said = e .placed ∙ chosen placedOf (tooMany n) (record { refusal = 1; container = container; circles = front n xs ys rs is }) (contained (front n xs ys rs is) container)
 
-    settled-answered : Answered (λ l. containerRefusal l container) (λ l. contained l container .circles) xs ys rs n (r .refusal) xs′ ys′
+    settled-answered : Answered (λ l. containerRefusal l container) (λ l. contained l container .circles) xs ys rs is n (r .refusal) xs′ ys′
     unfolding Answered frontContained
     settled-answered =
-        let number : r .refusal ≡ unlessMany n 1 (containerRefusal (front n xs ys rs) container) =
-        ap (λ (o : Placed). o .refusal) placed-said ∙ chosen (λ (o : Placed). o .refusal) (tooMany n) many (placedOf (contained (front n xs ys rs) container))
-        ∙ ap (λ (k : ℕ). cond (tooMany n) 1 k) (container-answers (front n xs ys rs) container .says) in
+        let number : r .refusal ≡ unlessMany n 1 (containerRefusal (front n xs ys rs is) container) =
+        ap (λ (o : Placed). o .refusal) placed-said ∙ chosen (λ (o : Placed). o .refusal) (tooMany n) many (placedOf (contained (front n xs ys rs is) container))
+        ∙ ap (λ (k : ℕ). cond (tooMany n) 1 k) (container-answers (front n xs ys rs is) container .says) in
         (number, λ z. e .circles z ∙ rw (none-counted n _ (sym number ∙ z) .0), e .long)
 
     pub settled-fits : (writtenOf (r .refusal) n ≤ n) × (writtenOf (r .refusal) n ≤ maxCircles)
-    settled-fits = answered-fits cs zs (container-answering container) (r .refusal) xs′ ys′ settled-answered
+    settled-fits = answered-fits cs zs ws (container-answering container) (r .refusal) xs′ ys′ settled-answered
 
     pub settled-settles : Settles cs container r (recentred (writtenOf (r .refusal) n) xs′ ys′ cs)
-    settled-settles = (of-run n cs (front n xs ys rs) (λ l. placedOf (contained l container)) many r (run-back cs zs) (many-placed container cs) placed-said, answered-run cs zs (container-answering container) (r .refusal) xs′ ys′ settled-answered)
+    settled-settles = (of-run n cs (front n xs ys rs is) (λ l. placedOf (contained l container)) many r (run-back cs zs ws) (many-placed container cs) placed-said, answered-run cs zs ws (container-answering container) (r .refusal) xs′ ys′ settled-answered)

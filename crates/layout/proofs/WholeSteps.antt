@@ -15,7 +15,7 @@ use Rattle.scope.specs.Numbers.{golden}
 use Rattle.scope.specs.Runs.{filled}
 use Rattle.scope.specs.Limits.{circleCap, radiusOk}
 use Rattle.scope.specs.Links.{Region, regions, circle}
-use Rattle.scope.specs.Refusals.{regionsRefusal, layoutRefusal}
+use Rattle.scope.specs.Refusals.{rising, regionsRefusal}
 use Rattle.scope.specs.Groups.{Clusters, Grouping, clusters, areaGrouping}
 use Rattle.scope.specs.Tolerance.{tolerance}
 use Rattle.scope.specs.Offset.{offset}
@@ -23,10 +23,12 @@ use Rattle.scope.specs.Gauge.{gauged}
 use Rattle.scope.specs.Padding.{boxes, padding}
 use Rattle.scope.specs.Layout.{Result, arranged}
 use Rattle.promises.specs.Demand3.{AreDoubles}
-use Rattle.laws.proofs.Accepted.{layout-accepted-iff}
+use Rattle.laws.specs.Limits.{WithinLimits}
+use Rattle.laws.proofs.Cases.{not-not-iff}
+use Rattle.laws.proofs.Accepted.{not-too-many-iff, not-unequal-iff, not-too-many-regions-iff}
 use Rattle.laws.proofs.AfterRefusal.{area-grouping-answers}
 use Rattle.laws.proofs.Clusters.{clusters-numbering}
-use Rattle.laws.proofs.EntryPoints.{regions-reads, layout-reads}
+use Rattle.laws.proofs.EntryPoints.{regions-reads}
 use Rattle.promises.proofs.numbers.InRange.{radius-lifted}
 use Rattle.laws.proofs.Runs.{length-filled}
 use Rattle.promises.proofs.whole.PackingAccepts.{layout-packs}
@@ -50,17 +52,19 @@ radii-lifted xs ys rs e ok i =
       | no h ↦ rw (past-end rs i (rw e (omega arith))) lift-nan
     ]
 
-module _ (xs ys rs : List Float) (factor : Float) (masks : List ℕ) (areas : List Float) (even : length rs ≡ length xs) (h : layoutRefusal (circlesOf xs ys rs) factor masks areas ≡ 0) where
+module _ (xs ys rs : List Float) (factor : Float) (masks : List ℕ) (areas : List Float) (even : length rs ≡ length xs) (h : WithinLimits (circlesOf xs ys rs) factor masks areas) where
   pub accepted-lifted : Lifted rs
-  accepted-lifted = radii-lifted xs ys rs even (λ i l. layout-accepted-iff (circlesOf xs ys rs) factor masks areas .0 h .radii i (rw (length-shown xs ys rs) l))
+  accepted-lifted = radii-lifted xs ys rs even (λ i l. h .radii i (rw (length-shown xs ys rs) l))
 
   pub accepted-paired : length masks ≡ length areas
-  accepted-paired = layout-accepted-iff (circlesOf xs ys rs) factor masks areas .0 h .paired
+  accepted-paired = h .paired
 
   pub accepted-regions : regionsRefusal (length xs) masks areas ≡ 0
   accepted-regions =
-      let r = layout-reads (circlesOf xs ys rs) factor masks areas .accepted .0 h in
-      regions-reads (length xs) masks areas .accepted .1 (rw (length-shown xs ys rs) at (r .0), (r .1 .0, (r .1 .1 .0, (r .1 .1 .1 .1 .1 .0, tt))))
+      regions-reads (length xs) masks areas .accepted .1 (
+        not-too-many-iff (length xs) .1 (rw (length-shown xs ys rs) at (h .few-circles)),
+        (not-unequal-iff masks areas .1 (h .paired), (not-too-many-regions-iff (length masks) .1 (h .few-regions), (not-not-iff (rising masks) .1 (h .masks-rise), tt))),
+      )
 
   -- ---- the clusters
   abbrev regs : List Region

@@ -9,8 +9,9 @@ use Rattle.shapes.specs.declared.circle.Circle.{Circle}
 use Rattle.scope.specs.Twins.{unlessMany}
 use Rattle.intake.specs.CauseWords.{front}
 
-unfoldable pub Answered : (List Circle → ℕ) → (List Circle → List Circle) → List Float → List Float → List Float → ℕ → ℕ → List Float → List Float → Type 0
-Answered number after xs ys rs n refusal xs′ ys′ =
-    (refusal ≡ unlessMany n 1 (number (front n xs ys rs)))
-    × (refusal ≡ 0 → front n xs′ ys′ rs ≡ after (front n xs ys rs))
+unfoldable pub Answered : (List Circle → ℕ) → (List Circle → List Circle) → List Float → List Float → List Float → List ℕ → ℕ → ℕ
+    → List Float → List Float → Type 0
+Answered number after xs ys rs is n refusal xs′ ys′ =
+    (refusal ≡ unlessMany n 1 (number (front n xs ys rs is)))
+    × (refusal ≡ 0 → front n xs′ ys′ rs is ≡ after (front n xs ys rs is))
     × (refusal ≡ 0 → length (take n xs′) ≡ n)

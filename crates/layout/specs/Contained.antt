@@ -1,4 +1,4 @@
--- What the container call's core answers for circles whose numbers stand in the front of three arrays.
+-- What the container call's core answers for circles whose numbers stand in the front of four arrays.
 use Prim.Native.Nat.{ℕ}
 use mathlib.Core.Path.{_≡_}
 use mathlib.Core.Bool.{cond}
@@ -9,29 +9,29 @@ use Rattle.shapes.specs.declared.circle.Circle.{Circle}
 use Rattle.shapes.specs.declared.rectangle.Rectangle.{Rectangle}
 use Rattle.scope.specs.Refusals.{tooMany, containerRefusal}
 use Rattle.scope.specs.Container.{Contained, contained, settled}
-use Rattle.intake.specs.CauseWords.{front}
+use Rattle.intake.specs.CauseWords.{front, bareFront}
 use Rattle.layout.specs.Answers.{placedOf}
 use Rattle.layout.specs.declared.container.Placed.{Placed}
 
--- the call on the first n circles of three lists; with too many, none is looked at
-unfoldable pub frontContained : ℕ → List Float → List Float → List Float → Rectangle → Contained
-frontContained n xs ys rs container =
-    let many : Contained = record { refusal = 1; container = container; circles = front n xs ys rs } in
-    cond (tooMany n) many (contained (front n xs ys rs) container)
+-- the call on the first n circles of four lists; with too many, none is looked at
+unfoldable pub frontContained : ℕ → List Float → List Float → List Float → List ℕ → Rectangle → Contained
+frontContained n xs ys rs is container =
+    let many : Contained = record { refusal = 1; container = container; circles = front n xs ys rs is } in
+    cond (tooMany n) many (contained (front n xs ys rs is) container)
 
 -- the number that comes back for them
-unfoldable pub containedNumber : ℕ → List Float → List Float → List Float → Rectangle → ℕ
-containedNumber n xs ys rs container = cond (tooMany n) 1 (containerRefusal (front n xs ys rs) container)
+unfoldable pub containedNumber : ℕ → List Float → List Float → List Float → List ℕ → Rectangle → ℕ
+containedNumber n xs ys rs is container = cond (tooMany n) 1 (containerRefusal (front n xs ys rs is) container)
 
 -- the core's answer, and after an acceptance the circles that its lists show
-pub record SettledAt (xs ys rs : List Float) (n : ℕ) (container : Rectangle) (r : Placed) (xs′ ys′ : List Float) : Type 0 where
-  pub placed : r ≡ placedOf (frontContained n xs ys rs container)
+pub record SettledAt (xs ys rs : List Float) (is : List ℕ) (n : ℕ) (container : Rectangle) (r : Placed) (xs′ ys′ : List Float) : Type 0 where
+  pub placed : r ≡ placedOf (frontContained n xs ys rs is container)
   pub long : r .refusal ≡ 0 → length (take n xs′) ≡ n
-  pub circles : r .refusal ≡ 0 → front n xs′ ys′ rs ≡ frontContained n xs ys rs container .circles
+  pub circles : r .refusal ≡ 0 → front n xs′ ys′ rs is ≡ frontContained n xs ys rs is container .circles
 
--- the circles of accepted ones
+-- the circles of accepted ones, as the steps see them
 abbrev pub SettledFront : List Float → List Float → List Float → ℕ → Rectangle → List Float → List Float → Type 0
-SettledFront xs ys rs n container xs′ ys′ = (length (take n xs′) ≡ n) × (front n xs′ ys′ rs ≡ settled container (front n xs ys rs) .circles)
+SettledFront xs ys rs n container xs′ ys′ = (length (take n xs′) ≡ n) × (bareFront n xs′ ys′ rs ≡ settled container (bareFront n xs ys rs) .circles)
 
 -- the call's answer for a run, and the run after it
 abbrev pub Settles : List Circle → Rectangle → Placed → List Circle → Type 0

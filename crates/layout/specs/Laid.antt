@@ -1,4 +1,4 @@
--- What the layout's core answers for circles whose numbers stand in the front of three arrays, and the steps that it goes through.
+-- What the layout's core answers for circles whose numbers stand in the front of four arrays, and the steps that it goes through.
 use Prim.Native.Nat.{ℕ}
 use mathlib.Core.Path.{_≡_}
 use mathlib.Core.Bool.{cond}
@@ -29,20 +29,21 @@ packedClusters count numbers factor cs = packClusters golden numbers (boxes coun
 abbrev pub settledClusters : ℕ → List ℕ → Float → List Circle → List Circle
 settledClusters count numbers factor cs = centredLayout (packedClusters count numbers factor cs)
 
--- the layout of the first n circles of three lists; with too many, none is looked at
-unfoldable pub frontLayout : ℕ → List Float → List Float → List Float → Float → List ℕ → List Float → Layout
-frontLayout n xs ys rs factor masks areas = cond (tooMany n) (refusedLayout 1 []) (layout (front n xs ys rs) factor masks areas)
+-- the layout of the first n circles of four lists; with too many, none is looked at
+unfoldable pub frontLayout : ℕ → List Float → List Float → List Float → List ℕ → Float → List ℕ → List Float → Layout
+frontLayout n xs ys rs is factor masks areas = cond (tooMany n) (refusedLayout 1 []) (layout (front n xs ys rs is) factor masks areas)
 
 -- the number that comes back for them
-unfoldable pub frontNumber : ℕ → List Float → List Float → List Float → Float → List ℕ → List Float → ℕ
-frontNumber n xs ys rs factor masks areas = cond (tooMany n) 1 (layoutRefusal (front n xs ys rs) factor masks areas)
+unfoldable pub frontNumber : ℕ → List Float → List Float → List Float → List ℕ → Float → List ℕ → List Float → ℕ
+frontNumber n xs ys rs is factor masks areas = cond (tooMany n) 1 (layoutRefusal (front n xs ys rs is) factor masks areas)
 
 -- the core's answer: the result, and after an acceptance the circles that its lists show, which keep the promises
-pub record Laid (xs ys rs : List Float) (n : ℕ) (factor : Float) (masks : List ℕ) (areas : List Float) (r : Result) (xs′ ys′ : List Float) : Type 0 where
-  pub result : resultOf r ≡ frontLayout n xs ys rs factor masks areas .result
+pub record Laid (xs ys rs : List Float) (is : List ℕ) (n : ℕ) (factor : Float) (masks : List ℕ) (areas : List Float) (r : Result)
+    (xs′ ys′ : List Float) : Type 0 where
+  pub result : resultOf r ≡ frontLayout n xs ys rs is factor masks areas .result
   pub long : r .refusal ≡ 0 → length (take n xs′) ≡ n
-  pub circles : r .refusal ≡ 0 → front n xs′ ys′ rs ≡ frontLayout n xs ys rs factor masks areas .circles
-  pub promises : r .refusal ≡ 0 → Promises bound (front n xs ys rs) (regions masks areas) (resultOf r) (front n xs′ ys′ rs)
+  pub circles : r .refusal ≡ 0 → front n xs′ ys′ rs is ≡ frontLayout n xs ys rs is factor masks areas .circles
+  pub promises : r .refusal ≡ 0 → Promises bound (front n xs ys rs is) (regions masks areas) (resultOf r) (front n xs′ ys′ rs is)
 
 -- the call's answer for a run, and the run after it
 abbrev pub Lays : List Circle → Float → List ℕ → List Float → Result → List Circle → Type 0

@@ -9,9 +9,9 @@ use Rattle.scope.specs.Links.{circle}
 use Rattle.shapes.specs.Records.{circleOf}
 use Rattle.intake.specs.Columns.{at}
 
--- the first circles at other centres, with their radii; the rest as it is
+-- the first circles at other centres, with their radii and their inks; the rest as it is
 unfoldable pub recentred : ℕ → List Float → List Float → List Circle → List Circle
-recentred count xs ys cs = tab count (λ i. circleOf (at xs i) (at ys i) (circle cs i .radius)) ++ drop count cs
+recentred count xs ys cs = tab count (λ i. circleOf (at xs i) (at ys i) (circle cs i .radius) (circle cs i .ink)) ++ drop count cs
 
 -- how many circles get a new centre: none after a refusal
 unfoldable pub writtenOf : ℕ → ℕ → ℕ

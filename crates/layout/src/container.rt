@@ -41,7 +41,7 @@ pub struct Placed {
 // Moves the container to the origin, the circles along, and then the circles to its middle, unless they reach past its edge: what of them
 // shows depends on where the edge cuts them, and a move would change that.
 // Rewrites the centres of a lent run. A refused run is not written to.
-// Refused: too many circles (1), a centre (3), a radius (4), a side (7).
+// Refused: too many circles (1), a centre (3), a radius (4), a side (7), two circles of one ink (14).
 pub fn normalize_layout_with_container(circles: &mut [Circle], container: Rectangle) -> Placed
     ensures { λ r. ⌜ (r ≡ placedOf (contained (now (circles .entry)) container))
         × (now (circles .exit) ≡ contained (now (circles .entry)) container .circles) ⌝ }
@@ -49,9 +49,10 @@ pub fn normalize_layout_with_container(circles: &mut [Circle], container: Rectan
     let mut xs = [0.0; MAX_CIRCLES];
     let mut ys = [0.0; MAX_CIRCLES];
     let mut radii = [0.0; MAX_CIRCLES];
+    let mut inks = [0u16; MAX_CIRCLES];
     let n = circles.len();
-    split(circles, &mut xs, &mut ys, &mut radii);
-    let r = settled_at(&mut xs, &mut ys, &radii, n, container);
+    split(circles, &mut xs, &mut ys, &mut radii, &mut inks);
+    let r = settled_at(&mut xs, &mut ys, &radii, &inks, n, container);
     join(circles, &xs, &ys, written(r.refusal, n));
     r
 }
@@ -67,8 +68,9 @@ pub fn normalize_layout_with_container_by_value(
     let mut xs = [0.0; MAX_CIRCLES];
     let mut ys = [0.0; MAX_CIRCLES];
     let mut radii = [0.0; MAX_CIRCLES];
-    split_array(circles, n, &mut xs, &mut ys, &mut radii);
-    let placed = settled_at(&mut xs, &mut ys, &radii, n, container);
+    let mut inks = [0u16; MAX_CIRCLES];
+    split_array(circles, n, &mut xs, &mut ys, &mut radii, &mut inks);
+    let placed = settled_at(&mut xs, &mut ys, &radii, &inks, n, container);
     let at = placed.container;
     InContainer {
         refusal: placed.refusal,
@@ -77,17 +79,19 @@ pub fn normalize_layout_with_container_by_value(
     }
 }
 
-// Of circles whose numbers stand in the front of three arrays.
+// Of circles whose numbers stand in the front of four arrays.
 fn settled_at(
     xs: &mut [f64; MAX_CIRCLES],
     ys: &mut [f64; MAX_CIRCLES],
     radii: &[f64; MAX_CIRCLES],
+    inks: &[u16; MAX_CIRCLES],
     n: usize,
     container: Rectangle,
 ) -> Placed
-    ensures { λ r. ⌜ SettledAt (now (xs .entry)) (now (ys .entry)) (now (radii .entry)) n container r (now (xs .exit)) (now (ys .exit)) ⌝ }
+    ensures { λ r. ⌜ SettledAt (now (xs .entry)) (now (ys .entry)) (now (radii .entry)) (now (inks .entry)) n container r
+        (now (xs .exit)) (now (ys .exit)) ⌝ }
 {
-    let refusal = number(xs, ys, radii, n, container);
+    let refusal = number(xs, ys, radii, inks, n, container);
     if refusal != 0 {
         return Placed { refusal, container };
     }
@@ -103,12 +107,13 @@ fn number(
     xs: &[f64; MAX_CIRCLES],
     ys: &[f64; MAX_CIRCLES],
     radii: &[f64; MAX_CIRCLES],
+    inks: &[u16; MAX_CIRCLES],
     n: usize,
     container: Rectangle,
 ) -> u8
-    ensures { λ r. ⌜ r ≡ containedNumber n (now (xs .entry)) (now (ys .entry)) (now (radii .entry)) container ⌝ }
+    ensures { λ r. ⌜ r ≡ containedNumber n (now (xs .entry)) (now (ys .entry)) (now (radii .entry)) (now (inks .entry)) container ⌝ }
 {
-    number_of(of_circles(xs, ys, radii, n) | of_container(container))
+    number_of(of_circles(xs, ys, radii, inks, n) | of_container(container))
 }
 
 fn in_front(xs: &mut [f64], ys: &mut [f64], radii: &[f64], n: usize, container: Rectangle)

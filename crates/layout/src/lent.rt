@@ -52,6 +52,7 @@ pub(crate) fn recentred(
         let r = Circle {
             center: Point { x: xs[i], y: ys[i] },
             radius: c.radius,
+            ink: c.ink,
         };
         moved[i] = r;
         i += 1;

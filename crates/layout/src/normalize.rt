@@ -1,7 +1,7 @@
 // The whole layout: children moved off their parents' centres, each cluster turned and mirrored, the clusters packed, and all of it centred.
 ghost use mathlib.Core.Path.{_≡_};
-ghost use mathlib.Core.List.{[]};
-ghost use Prim.Native.Nat.{_≤_, _<_};
+ghost use mathlib.Core.List.{List, []};
+ghost use Prim.Native.Nat.{ℕ, _≤_, _<_};
 ghost use lib.ListN.{length, take};
 ghost use Rattle.scope.specs.Links.{regions};
 ghost use Rattle.scope.specs.Refusals.{layoutRefusal};
@@ -10,10 +10,11 @@ ghost use Rattle.scope.specs.Padding.{boxes, padding};
 ghost use Rattle.scope.specs.Layout.{layout, arranged, refusedLayout};
 ghost use Rattle.scope.specs.Twins.{firstLayout};
 ghost use Rattle.scope.specs.Promises.{Promises};
+ghost use Rattle.laws.specs.Limits.{WithinLimits};
 ghost use Rattle.promises.specs.Demand3.{bound, AreDoubles};
 ghost use Rattle.intake.specs.Limits.{maxCircles};
 ghost use Rattle.intake.specs.Columns.{circlesOf, Lifted};
-ghost use Rattle.intake.specs.CauseWords.{front};
+ghost use Rattle.intake.specs.CauseWords.{front, bareFront};
 ghost use Rattle.packing.specs.Lists.{FullLength};
 ghost use Rattle.layout.specs.Answers.{resultOf, laidOut};
 ghost use Rattle.layout.specs.ClusterBoxes.{InClusters, BoxLists};
@@ -58,7 +59,8 @@ pub struct Layout {
 }
 
 // Rewrites the centres of a lent run. A refused run is not written to.
-// Refused: too many circles (1), lists of unequal length (13), too many regions (2), a centre (3), a radius (4), masks that do not rise (5), the factor (6).
+// Refused: too many circles (1), lists of unequal length (13), too many regions (2), a centre (3), a radius (4), masks that do not rise (5), the factor (6),
+// two circles of one ink (14).
 pub fn normalize_layout_with_clusters(
     circles: &mut [Circle],
     factor: f64,
@@ -72,9 +74,10 @@ pub fn normalize_layout_with_clusters(
     let mut xs = [0.0; MAX_CIRCLES];
     let mut ys = [0.0; MAX_CIRCLES];
     let mut radii = [0.0; MAX_CIRCLES];
+    let mut inks = [0u16; MAX_CIRCLES];
     let n = circles.len();
-    split(circles, &mut xs, &mut ys, &mut radii);
-    let r = laid(&mut xs, &mut ys, &radii, n, factor, masks, areas);
+    split(circles, &mut xs, &mut ys, &mut radii, &mut inks);
+    let r = laid(&mut xs, &mut ys, &radii, &inks, n, factor, masks, areas);
     join(circles, &xs, &ys, written(r.refusal, n));
     r
 }
@@ -94,29 +97,31 @@ pub fn normalize_layout_with_clusters_by_value(
     let mut xs = [0.0; MAX_CIRCLES];
     let mut ys = [0.0; MAX_CIRCLES];
     let mut radii = [0.0; MAX_CIRCLES];
-    split_array(circles, n, &mut xs, &mut ys, &mut radii);
-    let result = laid(&mut xs, &mut ys, &radii, n, factor, masks, areas);
+    let mut inks = [0u16; MAX_CIRCLES];
+    split_array(circles, n, &mut xs, &mut ys, &mut radii, &mut inks);
+    let result = laid(&mut xs, &mut ys, &radii, &inks, n, factor, masks, areas);
     Layout {
         result,
         circles: recentred(circles, &xs, &ys, written(result.refusal, n)),
     }
 }
 
-// The layout of circles whose numbers stand in the front of three arrays.
+// The layout of circles whose numbers stand in the front of four arrays.
 fn laid(
     xs: &mut [f64; MAX_CIRCLES],
     ys: &mut [f64; MAX_CIRCLES],
     radii: &[f64; MAX_CIRCLES],
+    inks: &[u16; MAX_CIRCLES],
     n: usize,
     factor: f64,
     masks: &[u64],
     areas: &[f64],
 ) -> Result
-    ensures { λ r. ⌜ Laid (now (xs .entry)) (now (ys .entry)) (now (radii .entry)) n factor (now (masks .entry)) (now (areas .entry)) r
+    ensures { λ r. ⌜ Laid (now (xs .entry)) (now (ys .entry)) (now (radii .entry)) (now (inks .entry)) n factor (now (masks .entry)) (now (areas .entry)) r
         (now (xs .exit)) (now (ys .exit)) ⌝ }
 {
     let refusal = number_of(
-        of_circles(xs, ys, radii, n) | of_regions(masks, areas) | of_factor(factor),
+        of_circles(xs, ys, radii, inks, n) | of_regions(masks, areas) | of_factor(factor),
     );
     if refusal != 0 {
         return refused(refusal);
@@ -136,6 +141,7 @@ fn refused(number: u8) -> Result
     }
 }
 
+// No step looks at an ink, so what is laid out holds with any: those that come back are those of the run.
 fn in_front(
     xs: &mut [f64],
     ys: &mut [f64],
@@ -146,9 +152,10 @@ fn in_front(
     areas: &[f64],
 ) -> Result
     requires { ⌜ (n ≤ maxCircles) × (length (now xs) ≡ maxCircles) × (length (now ys) ≡ maxCircles) × (length (now radii) ≡ maxCircles)
-        × (layoutRefusal (front n (now xs) (now ys) (now radii)) factor (now masks) (now areas) ≡ 0) ⌝ }
-    ensures { λ r. ⌜ Laid (now (xs .entry)) (now (ys .entry)) (now (radii .entry)) n factor (now (masks .entry)) (now (areas .entry)) r
-        (now (xs .exit)) (now (ys .exit)) ⌝ }
+        × WithinLimits (bareFront n (now xs) (now ys) (now radii)) factor (now masks) (now areas) ⌝ }
+    ensures { λ r. ⌜ ((inks : List ℕ) → layoutRefusal (front n (now (xs .entry)) (now (ys .entry)) (now (radii .entry)) inks) factor
+        (now (masks .entry)) (now (areas .entry)) ≡ 0 → Laid (now (xs .entry)) (now (ys .entry)) (now (radii .entry)) inks n factor
+        (now (masks .entry)) (now (areas .entry)) r (now (xs .exit)) (now (ys .exit))) ⌝ }
 {
     arranged(
         &mut xs[0..n],
@@ -172,7 +179,7 @@ fn arranged(
     areas: &[f64],
 ) -> Result
     requires { ⌜ (length (now xs) ≤ maxCircles) × (length (now ys) ≡ length (now xs)) × (length (now radii) ≡ length (now xs))
-        × (layoutRefusal (circlesOf (now xs) (now ys) (now radii)) factor (now masks) (now areas) ≡ 0)
+        × WithinLimits (circlesOf (now xs) (now ys) (now radii)) factor (now masks) (now areas)
         × AreDoubles (circlesOf (now xs) (now ys) (now radii)) factor ⌝ }
     ensures result { λ r. ⌜ resultOf r
         ≡ arrangedOf (now (xs .entry)) (now (ys .entry)) (now (radii .entry)) factor (now (masks .entry)) (now (areas .entry)) .result ⌝ }

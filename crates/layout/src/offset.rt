@@ -327,7 +327,7 @@ fn there(m: Point, d_max: f64) -> bool
     magnitude(m.x, m.y) <= 1e-9 * maximum(d_max, 1.0)
 }
 
-// The circle at a place of the lists.
+// The circle at a place of the lists. No step looks at its ink.
 fn at(xs: &[f64], ys: &[f64], radii: &[f64], i: usize) -> Circle
     requires { ⌜ (i < length (now xs)) × (length (now ys) ≡ length (now xs)) × (length (now radii) ≡ length (now xs)) ⌝ }
     ensures { λ r. ⌜ r ≡ circle (circlesOf (now (xs .entry)) (now (ys .entry)) (now (radii .entry))) i ⌝ }
@@ -335,6 +335,7 @@ fn at(xs: &[f64], ys: &[f64], radii: &[f64], i: usize) -> Circle
     Circle {
         center: Point { x: xs[i], y: ys[i] },
         radius: radii[i],
+        ink: 0,
     }
 }
 

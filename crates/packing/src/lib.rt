@@ -9,7 +9,20 @@ ghost use lib.Ieee.{nan, eq};
 ghost use Rattle.scope.specs.Numbers.{_<ᶠ_, _*ᶠ_, nought, golden};
 ghost use Rattle.scope.specs.Runs.{tab, filled};
 ghost use Rattle.scope.specs.Limits.{circleCap};
-ghost use Rattle.scope.specs.Packing.{noRectangle, widthAt, heightAt, columns, columnsAnswer, place, breadth, start, centred, placed, refusedPacking, skylinePack};
+ghost use Rattle.scope.specs.Packing.{
+  noRectangle,
+  widthAt,
+  heightAt,
+  columns,
+  columnsAnswer,
+  place,
+  breadth,
+  start,
+  centred,
+  placed,
+  refusedPacking,
+  skylinePack,
+};
 ghost use Rattle.scope.specs.Twins.{firstPacking};
 ghost use Rattle.intake.specs.Limits.{maxCircles};
 ghost use Rattle.intake.specs.Columns.{at, overwritten};

@@ -4,3 +4,5 @@ pub mod SixtyFour
 pub mod Demand3
 pub mod PackingAccepts
 pub mod Duds
+pub mod Lengths
+pub mod Inks

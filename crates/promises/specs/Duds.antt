@@ -24,7 +24,7 @@ answered handed = layout handed nought [] [] .result
 
 -- two circles that overlap
 abbrev pub pair : List Circle
-pair = wholeCircle 0 0 1 ∷ wholeCircle 1 0 1 ∷ []
+pair = wholeCircle 0 0 1 1 ∷ wholeCircle 1 0 1 2 ∷ []
 
 pub record Duds : Type 0 where
   -- "Handing the circles back untouched": the gap clause
@@ -36,4 +36,4 @@ pub record Duds : Type 0 where
   pub all-moved : (returned : List Circle)
       → Broken pair (record { refusal = 0; count = 2; numbers = answered pair .numbers; moved = 2 ^ 64 - 1; padding = nought }) returned
   -- "packing only the first cluster", wherever that one is put: the gap clause
-  pub first-packed : (first : Circle) → Broken (wholeCircle 9 0 1 ∷ pair) (answered (wholeCircle 9 0 1 ∷ pair)) (first ∷ pair)
+  pub first-packed : (first : Circle) → Broken (wholeCircle 9 0 1 3 ∷ pair) (answered (wholeCircle 9 0 1 3 ∷ pair)) (first ∷ pair)

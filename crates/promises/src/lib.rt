@@ -1,1 +1,1 @@
-// Theorems about the definitions of `scope`: closure and chains, refusals, and the four promises of a layout. No functions.
+// Theorems about the definitions of `scope`: the four promises of a layout, and that ink numbers travel with circles. No functions.

@@ -6,20 +6,21 @@ use shapes::circle::Circle;
 use shapes::point::Point;
 use shapes::rectangle::Rectangle;
 
-// Two boxes and a radius; the union, whether and what they share, width, height and area, the lifted radius, the box of the circle and that of the rectangle.
+// Two boxes, a radius and an ink; the union, whether and what they share, width, height and area, the lifted radius and the ink, the box of the circle and that
+// of the rectangle.
 pub fn boxes_agree(body: &[u8]) -> bool {
-    if body.len() != 233 {
+    if body.len() != 237 {
         return false;
     }
     let a = read::bounds(body, 0);
     let b = read::bounds(body, 32);
     let radius = read::float(body, 64);
-    read::is_bounds(body, 72, a.union(b))
-        && shared(body, 104, a.intersection(b))
-        && read::is_result(body, 137, a.width())
-        && read::is_result(body, 145, a.height())
-        && read::is_result(body, 153, a.area())
-        && circle(body, a, radius)
+    read::is_bounds(body, 74, a.union(b))
+        && shared(body, 106, a.intersection(b))
+        && read::is_result(body, 139, a.width())
+        && read::is_result(body, 147, a.height())
+        && read::is_result(body, 155, a.area())
+        && circle(body, a, radius, read::short(body, 72))
         && rectangle(body, b)
 }
 
@@ -36,16 +37,19 @@ fn shared(body: &[u8], at: usize, overlap: Overlap) -> bool {
     }
 }
 
-fn circle(body: &[u8], a: Bounds, radius: f64) -> bool {
-    let lifted = Circle::from_params(a.x_min, a.x_max, radius);
+fn circle(body: &[u8], a: Bounds, radius: f64, ink: u16) -> bool {
+    let lifted = Circle::from_params(a.x_min, a.x_max, radius, ink);
     let c = Circle {
         center: Point {
             x: a.x_min,
             y: a.x_max,
         },
         radius,
+        ink,
     };
-    read::is_result(body, 161, lifted.radius()) && read::is_bounds(body, 169, c.bounds())
+    read::is_result(body, 163, lifted.radius())
+        && read::short(body, 171) == lifted.ink()
+        && read::is_bounds(body, 173, c.bounds())
 }
 
 fn rectangle(body: &[u8], b: Bounds) -> bool {
@@ -58,5 +62,5 @@ fn rectangle(body: &[u8], b: Bounds) -> bool {
         width: b.y_min,
         height: b.y_max,
     };
-    read::is_bounds(body, 201, r.bounds())
+    read::is_bounds(body, 205, r.bounds())
 }

@@ -20,26 +20,26 @@ pub fn distance_agrees(body: &[u8]) -> bool {
 
 // Two circles, the refusal, the distance, whether the first contains the second, whether they intersect.
 pub fn pair_agrees(body: &[u8]) -> bool {
-    if body.len() != 59 {
+    if body.len() != 63 {
         return false;
     }
     let a = read::circle(body, 0);
-    let b = read::circle(body, 24);
-    measured(body, 48, 49, circle::distance(a, b))
-        && decided(body, 48, 57, circle::contains(a, b))
-        && decided(body, 48, 58, circle::intersects(a, b))
+    let b = read::circle(body, 26);
+    measured(body, 52, 53, circle::distance(a, b))
+        && decided(body, 52, 61, circle::contains(a, b))
+        && decided(body, 52, 62, circle::intersects(a, b))
 }
 
 // A circle, a point, the refusal, whether the circle contains the point.
 pub fn point_agrees(body: &[u8]) -> bool {
-    if body.len() != 42 {
+    if body.len() != 44 {
         return false;
     }
     decided(
         body,
-        40,
-        41,
-        circle::contains_point(read::circle(body, 0), read::point(body, 24)),
+        42,
+        43,
+        circle::contains_point(read::circle(body, 0), read::point(body, 26)),
     )
 }
 

@@ -6,20 +6,20 @@ use clustering::Clusters;
 use intake::blanks::blank;
 use shapes::circle::Circle;
 
-// How many circles, their numbers, the answer.
+// How many circles, the circles, the answer.
 pub fn circles_agree(body: &[u8]) -> bool {
     let n = read::byte(body, 0) as usize;
-    if body.len() != 67 + 24 * n {
+    if body.len() != 67 + 26 * n {
         return false;
     }
     grouped(
         body,
-        1 + 24 * n,
+        1 + 26 * n,
         clustering::find_clusters_by_value(circles(body, 1, n), n),
     )
 }
 
-// The first of n circles from a place on.
+// The first of n circles from a place on. Behind them stand points of ink 0, which nothing may look at: they would be refused for their radii and inks.
 pub fn circles(body: &[u8], at: usize, n: usize) -> [Circle; 64] {
     let mut all = [blank(); 64];
     let mut i: usize = 0;
@@ -35,7 +35,7 @@ pub fn circles(body: &[u8], at: usize, n: usize) -> [Circle; 64] {
 fn circle_at(body: &[u8], at: usize, i: usize) -> Circle {
     if at < 65536 {
         if i < 64 {
-            return read::circle(body, at + 24 * i);
+            return read::circle(body, at + 26 * i);
         }
     }
     read::circle(body, 65536)

@@ -80,7 +80,7 @@ fn are_rectangles(body: &[u8], at: usize, n: usize, answer: Packed) -> bool
 // How many circles, the container, the circles; the refusal, the container and, where they fit a layout, the circles.
 pub fn container_agrees(body: &[u8]) -> bool {
     let n = read::byte(body, 0) as usize;
-    let at = 33 + 24 * n;
+    let at = 33 + 26 * n;
     if body.len() < at + 33 {
         return false;
     }
@@ -100,7 +100,7 @@ pub fn container_agrees(body: &[u8]) -> bool {
     if n > 64 {
         return body.len() == at + 33;
     }
-    body.len() == at + 33 + 24 * n && are_circles(body, at + 33, n, answer)
+    body.len() == at + 33 + 26 * n && are_circles(body, at + 33, n, answer)
 }
 
 fn are_circles(body: &[u8], at: usize, n: usize, answer: InContainer) -> bool
@@ -112,7 +112,7 @@ fn are_circles(body: &[u8], at: usize, n: usize, answer: InContainer) -> bool
     let all = answer.circles;
     let mut i: usize = 0;
     while i < n {
-        if !read::is_circle(body, at + 24 * i, all[i]) {
+        if !read::is_circle(body, at + 26 * i, all[i]) {
             return false;
         }
         i += 1;

@@ -18,6 +18,11 @@ pub fn word(body: &[u8], at: usize) -> u64 {
     half(body, at, 0) + half(body, at, 4) * 4294967296
 }
 
+// Two bytes, the lower first.
+pub fn short(body: &[u8], at: usize) -> u16 {
+    (later(body, at, 0) + later(body, at, 1) * 256) as u16
+}
+
 // Four bytes, from the k-th after a place.
 fn half(body: &[u8], at: usize, k: usize) -> u64
     requires { ⌜ k < 8 ⌝ }
@@ -59,6 +64,7 @@ pub fn point(body: &[u8], at: usize) -> Point {
     }
 }
 
+// A circle: x, y, radius and ink, in 26 bytes.
 pub fn circle(body: &[u8], at: usize) -> Circle {
     if at < 65536 {
         Circle {
@@ -67,11 +73,13 @@ pub fn circle(body: &[u8], at: usize) -> Circle {
                 y: float(body, at + 8),
             },
             radius: float(body, at + 16),
+            ink: short(body, at + 24),
         }
     } else {
         Circle {
             center: Point { x: 0.0, y: 0.0 },
             radius: 0.0,
+            ink: 0,
         }
     }
 }
@@ -134,6 +142,7 @@ pub fn is_circle(body: &[u8], at: usize, c: Circle) -> bool {
         is_result(body, at, c.center.x)
             && is_result(body, at + 8, c.center.y)
             && is_result(body, at + 16, c.radius)
+            && short(body, at + 24) == c.ink
     } else {
         false
     }

@@ -23,7 +23,7 @@ pub record Lies (file : List ℕ) (at : ℕ) : Type 0 where
   pub somewhere : length (fieldBody file at) ≢ 0 → (bodyPlace file at ≡ at + headLength) × (at + headLength ≤ length file)
   pub part : take (length (fieldBody file at)) (drop (bodyPlace file at) file) ≡ fieldBody file at
 
-one-of-three-has-length : (a b c : Bool) → not (a || b || c) ≡ false → _≢_ {A = ℕ} (cond a 8 (cond b 24 (cond c 16 0))) 0
+one-of-three-has-length : (a b c : Bool) → not (a || b || c) ≡ false → _≢_ {A = ℕ} (cond a 8 (cond b 26 (cond c 16 0))) 0
 one-of-three-has-length true b c h e = omega arith
 one-of-three-has-length false true c h e = omega arith
 one-of-three-has-length false false true h e = omega arith

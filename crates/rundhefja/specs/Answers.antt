@@ -5,7 +5,7 @@ use lib.Ieee.{Float}
 use Rattle.shapes.specs.declared.bounds.Overlap.{Overlap}
 use Rattle.shapes.specs.declared.bounds.Overlap.the-variants.{Box, Empty}
 use Rattle.shapes.specs.declared.circle.Circle.{Circle}
-use Rattle.shapes.specs.Records.{pointAt, boxOf}
+use Rattle.shapes.specs.Records.{boxOf, circleOf}
 use Rattle.scope.specs.Numbers.{nought}
 use Rattle.scope.specs.Refusals.{Answer, refused, given}
 use Rattle.scope.specs.CardFile.{Field, factorField, circleField, regionField}
@@ -35,7 +35,7 @@ sharedOf Empty = record { empty = true; bounds = boxOf nought nought nought noug
 -- ---- a field, its body's place and length beside it
 
 abbrev pub noCircle : Circle
-noCircle = record { center = pointAt nought nought; radius = nought }
+noCircle = circleOf nought nought nought 0
 
 abbrev pub fieldRead : Answer Field → ℕ → ℕ → FieldRead
 fieldRead (refused k) start length =

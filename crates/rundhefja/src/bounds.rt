@@ -87,8 +87,8 @@ pub extern "C" fn rundhefja_rectangle_bounds(r: Rectangle) -> Bounds
 
 // The radius is lifted.
 #[no_mangle]
-pub extern "C" fn rundhefja_circle_from_params(x: f64, y: f64, radius: f64) -> Circle
-    ensures { λ r. ⌜ r ≡ liftedCircle x y radius ⌝ }
+pub extern "C" fn rundhefja_circle_from_params(x: f64, y: f64, radius: f64, ink: u16) -> Circle
+    ensures { λ r. ⌜ r ≡ liftedCircle x y radius ink ⌝ }
 {
-    Circle::from_params(x, y, radius)
+    Circle::from_params(x, y, radius, ink)
 }

@@ -59,6 +59,7 @@ fn field_read(field: Field, start: usize, length: usize) -> FieldRead
         circle: Circle {
             center: Point { x: 0.0, y: 0.0 },
             radius: 0.0,
+            ink: 0,
         },
         mask: 0,
         area: 0.0,

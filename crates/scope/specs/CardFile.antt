@@ -7,7 +7,7 @@ use lib.ListN.{getD, length, take, drop}
 use lib.Ieee.{Float, binary64, ofBits}
 use Rattle.shapes.specs.declared.circle.Circle.{Circle}
 use Rattle.scope.specs.Refusals.{Answer, refused, given, answer, frontToBack, tooMany, tooManyRegions, layoutRefusal}
-use Rattle.shapes.specs.Records.{pointAt}
+use Rattle.shapes.specs.Records.{circleOf}
 
 -- ---- bytes to numbers
 
@@ -24,6 +24,10 @@ floatOf pattern = ofBits binary64 pattern
 unfoldable pub word : List ℕ → ℕ → ℕ
 word bs at = littleEndian (take 8 (drop at bs))
 
+-- the 16-bit number at a place
+unfoldable pub shortWord : List ℕ → ℕ → ℕ
+shortWord bs at = littleEndian (take 2 (drop at bs))
+
 -- ---- "A field is a tag byte, a two-byte length, a body": the field that starts the bytes `rest`
 
 abbrev pub headLength : ℕ
@@ -33,11 +37,11 @@ abbrev pub tag : List ℕ → ℕ
 tag rest = getD rest 0 0
 
 unfoldable pub statedLength : List ℕ → ℕ
-statedLength rest = littleEndian (take 2 (drop 1 rest))
+statedLength rest = shortWord rest 1
 
--- "Tag 1, factor, 8 bytes", "tag 2, circle, 24 bytes", "tag 3, region, 16 bytes"; 0 for any other tag
+-- "Tag 1, factor, 8 bytes", "tag 2, circle", which document 02, 1/14, has grow to 26 bytes, "tag 3, region, 16 bytes"; 0 for any other tag
 unfoldable pub bodyLength : ℕ → ℕ
-bodyLength t = cond (eqb t 1) 8 (cond (eqb t 2) 24 (cond (eqb t 3) 16 0))
+bodyLength t = cond (eqb t 1) 8 (cond (eqb t 2) 26 (cond (eqb t 3) 16 0))
 
 unfoldable pub body : List ℕ → List ℕ
 body rest = take (bodyLength (tag rest)) (drop headLength rest)
@@ -63,9 +67,9 @@ pub data Field : Type 0 where
   circleField : Circle → Field
   regionField : ℕ → Float → Field
 
--- "(x, y, radius)"
+-- "(x, y, radius)", and "the number last"
 unfoldable pub circleFrom : List ℕ → Circle
-circleFrom bs = record { center = pointAt (floatOf (word bs 0)) (floatOf (word bs 8)); radius = floatOf (word bs 16) }
+circleFrom bs = circleOf (floatOf (word bs 0)) (floatOf (word bs 8)) (floatOf (word bs 16)) (shortWord bs 24)
 
 unfoldable pub fieldOf : ℕ → List ℕ → Field
 fieldOf t bs = cond (eqb t 1) (factorField (floatOf (word bs 0))) (cond (eqb t 2) (circleField (circleFrom bs)) (regionField (word bs 0) (floatOf (word bs 8))))

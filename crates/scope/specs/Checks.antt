@@ -63,11 +63,11 @@ pub record RangeChecks : Type 0 where
   -- distances
   pub points : distanceAnswer (pointAt (whole 1) (whole 2)) (pointAt (whole 4) (whole 6)) ≡ given (whole 5)
   pub points-nan : distanceAnswer (pointAt nan nought) (pointAt nought nought) ≡ refused 3
-  pub circles : circleDistanceAnswer (wholeCircle 0 0 1) (wholeCircle 3 4 2) ≡ given (whole 2)
-  pub circles-touch : circleDistanceAnswer (wholeCircle 0 0 2) (wholeCircle 3 4 3) ≡ given nought
-  pub circles-both : circleDistanceAnswer (circleOf nan nought nought) (wholeCircle 3 4 3) ≡ refused 3
-  pub circles-radius : circleDistanceAnswer (wholeCircle 0 0 0) (wholeCircle 3 4 3) ≡ refused 4
-  pub on-the-edge : containsPointAnswer (wholeCircle 0 0 5) (pointAt (whole 3) (whole 4)) ≡ given true
+  pub circles : circleDistanceAnswer (wholeCircle 0 0 1 1) (wholeCircle 3 4 2 2) ≡ given (whole 2)
+  pub circles-touch : circleDistanceAnswer (wholeCircle 0 0 2 1) (wholeCircle 3 4 3 2) ≡ given nought
+  pub circles-both : circleDistanceAnswer (circleOf nan nought nought 1) (wholeCircle 3 4 3 1) ≡ refused 3
+  pub circles-radius : circleDistanceAnswer (wholeCircle 0 0 0 1) (wholeCircle 3 4 3 2) ≡ refused 4
+  pub on-the-edge : containsPointAnswer (wholeCircle 0 0 5 1) (pointAt (whole 3) (whole 4)) ≡ given true
 
 pub ranges : RangeChecks
 unfolding computing
@@ -122,9 +122,9 @@ pub record GroupChecks : Type 0 where
   pub too-many-regions : areaGrouping 2 (replicate 2049 3) (replicate 2049 one) e-10 ≡ refusedGrouping 2
   pub too-many-circles : areaGrouping 65 (replicate 2049 3) (one ∷ []) e-10 ≡ refusedGrouping 1
   -- a circle that touches its parent's edge from inside is not apart; one that touches from outside is
-  pub touches-inside : plainGrouping (wholeCircle 0 0 3 ∷ wholeCircle 2 0 1 ∷ []) ≡ grouped 1 (0 ∷ 0 ∷ [])
-  pub touches-outside : plainGrouping (wholeCircle 0 0 1 ∷ wholeCircle 2 0 1 ∷ []) ≡ grouped 2 (0 ∷ 1 ∷ [])
-  pub crosses : plainGrouping (wholeCircle 0 0 2 ∷ wholeCircle 9 0 1 ∷ wholeCircle 3 0 2 ∷ []) ≡ grouped 2 (0 ∷ 1 ∷ 0 ∷ [])
+  pub touches-inside : plainGrouping (wholeCircle 0 0 3 1 ∷ wholeCircle 2 0 1 2 ∷ []) ≡ grouped 1 (0 ∷ 0 ∷ [])
+  pub touches-outside : plainGrouping (wholeCircle 0 0 1 1 ∷ wholeCircle 2 0 1 2 ∷ []) ≡ grouped 2 (0 ∷ 1 ∷ [])
+  pub crosses : plainGrouping (wholeCircle 0 0 2 1 ∷ wholeCircle 9 0 1 2 ∷ wholeCircle 3 0 2 3 ∷ []) ≡ grouped 2 (0 ∷ 1 ∷ 0 ∷ [])
   -- M is at least 1, and passes over NaN
   pub tolerance-none : tolerance [] ≡ e-10
   pub tolerance-nan : tolerance (regions (1 ∷ 2 ∷ 3 ∷ []) (neg (whole 2) ∷ nan ∷ one ∷ [])) ≡ tolerance (regions (1 ∷ []) (whole 2 ∷ []))
@@ -162,8 +162,8 @@ eight n = tab 8 (λ i. n / 256 ^ i % 256)
 unfoldable pub factorBytes : ℕ → List ℕ
 factorBytes f = 1 ∷ 8 ∷ 0 ∷ eight f
 
-unfoldable pub circleBytes : ℕ → ℕ → ℕ → List ℕ
-circleBytes x y r = 2 ∷ 24 ∷ 0 ∷ eight x ++ eight y ++ eight r
+unfoldable pub circleBytes : ℕ → ℕ → ℕ → ℕ → List ℕ
+circleBytes x y r k = 2 ∷ 26 ∷ 0 ∷ eight x ++ eight y ++ eight r ++ k % 256 ∷ k / 256 ∷ []
 
 unfoldable pub regionBytes : ℕ → ℕ → List ℕ
 regionBytes m a = 3 ∷ 16 ∷ 0 ∷ eight m ++ eight a
@@ -172,53 +172,59 @@ regionBytes m a = 3 ∷ 16 ∷ 0 ∷ eight m ++ eight a
 unfoldable pub wholeBits : ℕ → ℕ
 wholeBits n = toBits binary64 (whole n)
 
--- (0,0,4), (0,0,1): a parent and a child in its middle
+-- (0,0,4) of ink 1, (0,0,1) of ink 2: a parent and a child in its middle
 unfoldable pub nested : List ℕ
-nested = factorBytes 0 ++ circleBytes 0 0 (wholeBits 4) ++ circleBytes 0 0 (wholeBits 1)
+nested = factorBytes 0 ++ circleBytes 0 0 (wholeBits 4) 1 ++ circleBytes 0 0 (wholeBits 1) 2
 
 pub record CardChecks : Type 0 where
   -- "areas 10 on mask 1 and 3 on mask 3: the child ends within 2^-40 of (1.5,0)": it ends at 3ff7ffffffffffdc, 36 units of 2^-52 below 1.5
   pub child : cardText (nested ++ regionBytes 1 (wholeBits 10) ++ regionBytes 3 (wholeBits 3))
       ≡ bytes "circles 2 clusters 1 moved 0000000000000002 padding 0000000000000000\n"
-      ++ bytes "0 0 0000000000000000 0000000000000000 4010000000000000\n"
-      ++ bytes "1 0 3ff7ffffffffffdc 0000000000000000 3ff0000000000000\n"
+      ++ bytes "0 0 0000000000000000 0000000000000000 4010000000000000 1\n"
+      ++ bytes "1 0 3ff7ffffffffffdc 0000000000000000 3ff0000000000000 2\n"
   -- a NaN area: the child's total is NaN, so it is not moved, and nothing links it
   pub nan-area : cardText (nested ++ regionBytes 1 (wholeBits 10) ++ regionBytes 3 0x7ff8_0000_0000_0000)
       ≡ bytes "circles 2 clusters 2 moved 0000000000000000 padding 0000000000000000\n"
-      ++ bytes "0 0 bff0000000000000 0000000000000000 4010000000000000\n"
-      ++ bytes "1 1 4010000000000000 0000000000000000 3ff0000000000000\n"
+      ++ bytes "0 0 bff0000000000000 0000000000000000 4010000000000000 1\n"
+      ++ bytes "1 1 4010000000000000 0000000000000000 3ff0000000000000 2\n"
   -- a bit above n is a second partner, so the child is not moved
   pub two-partners : cardText (nested ++ regionBytes 1 (wholeBits 10) ++ regionBytes 7 (wholeBits 3))
       ≡ bytes "circles 2 clusters 1 moved 0000000000000000 padding 0000000000000000\n"
-      ++ bytes "0 0 0000000000000000 0000000000000000 4010000000000000\n"
-      ++ bytes "1 0 0000000000000000 0000000000000000 3ff0000000000000\n"
+      ++ bytes "0 0 0000000000000000 0000000000000000 4010000000000000 1\n"
+      ++ bytes "1 0 0000000000000000 0000000000000000 3ff0000000000000 2\n"
   -- an area equal to the tolerance 1e-10 does not link
   pub at-tolerance : cardText (nested ++ regionBytes 1 (wholeBits 1) ++ regionBytes 3 0x3ddb_7cdf_d9d7_bdbb)
       ≡ bytes "circles 2 clusters 2 moved 0000000000000000 padding 0000000000000000\n"
-      ++ bytes "0 0 bff0000000000000 0000000000000000 4010000000000000\n"
-      ++ bytes "1 1 4010000000000000 0000000000000000 3ff0000000000000\n"
+      ++ bytes "0 0 bff0000000000000 0000000000000000 4010000000000000 1\n"
+      ++ bytes "1 1 4010000000000000 0000000000000000 3ff0000000000000 2\n"
   -- mistake: "summing areas in another order than rising masks". Summed the other way the parent's total is larger, and the child would move.
-  pub sum-order : cardText (nested ++ regionBytes 1 (wholeBits 9007208261) ++ regionBytes 3 (wholeBits (2 ^ 53)) ++ regionBytes 5 (wholeBits 1) ++ regionBytes 9 (wholeBits 1))
+  pub sum-order : cardText
+      (nested ++ regionBytes 1 (wholeBits 9007208261) ++ regionBytes 3 (wholeBits (2 ^ 53)) ++ regionBytes 5 (wholeBits 1) ++ regionBytes 9 (wholeBits 1))
       ≡ bytes "circles 2 clusters 1 moved 0000000000000000 padding 0000000000000000\n"
-      ++ bytes "0 0 0000000000000000 0000000000000000 4010000000000000\n"
-      ++ bytes "1 0 0000000000000000 0000000000000000 3ff0000000000000\n"
+      ++ bytes "0 0 0000000000000000 0000000000000000 4010000000000000 1\n"
+      ++ bytes "1 0 0000000000000000 0000000000000000 3ff0000000000000 2\n"
   -- mistake: "mirroring by boxes instead of centres". (0,0,1), (4,0,1), (-3,0,5): 0 is left of the centres' middle, 1/2, and right of the boxes', -3/2.
-  pub mirror : cardText (factorBytes 0 ++ circleBytes 0 0 (wholeBits 1) ++ circleBytes (wholeBits 4) 0 (wholeBits 1) ++ circleBytes 0xc008_0000_0000_0000 0 (wholeBits 5) ++ regionBytes 7 (wholeBits 1))
+  pub mirror : cardText
+      (factorBytes 0 ++ circleBytes 0 0 (wholeBits 1) 1 ++ circleBytes (wholeBits 4) 0 (wholeBits 1) 2 ++ circleBytes 0xc008_0000_0000_0000 0 (wholeBits 5) 3
+      ++ regionBytes 7 (wholeBits 1))
       ≡ bytes "circles 3 clusters 1 moved 0000000000000000 padding 0000000000000000\n"
-      ++ bytes "0 0 3ff8000000000000 0000000000000000 3ff0000000000000\n"
-      ++ bytes "1 0 4016000000000000 0000000000000000 3ff0000000000000\n"
-      ++ bytes "2 0 bff8000000000000 0000000000000000 4014000000000000\n"
+      ++ bytes "0 0 3ff8000000000000 0000000000000000 3ff0000000000000 1\n"
+      ++ bytes "1 0 4016000000000000 0000000000000000 3ff0000000000000 2\n"
+      ++ bytes "2 0 bff8000000000000 0000000000000000 4014000000000000 3\n"
   -- mistake: "taking the first circle's angle with the wrong sign". (0,0,1), (3,4,1) end level, up to 2^-51.
-  pub angle : cardText (factorBytes 0 ++ circleBytes 0 0 (wholeBits 1) ++ circleBytes (wholeBits 3) (wholeBits 4) (wholeBits 1) ++ regionBytes 3 (wholeBits 1))
+  pub angle : cardText
+      (factorBytes 0 ++ circleBytes 0 0 (wholeBits 1) 1 ++ circleBytes (wholeBits 3) (wholeBits 4) (wholeBits 1) 2 ++ regionBytes 3 (wholeBits 1))
       ≡ bytes "circles 2 clusters 1 moved 0000000000000000 padding 0000000000000000\n"
-      ++ bytes "0 0 c004000000000000 bcb0000000000000 3ff0000000000000\n"
-      ++ bytes "1 0 4004000000000000 3cb0000000000000 3ff0000000000000\n"
-  -- factor 1/2, (0,0,1), (10,0,2), (0,9,1), three clusters: the largest box goes first, and the padding is half the root of 24
-  pub padded : cardText (factorBytes 0x3fe0_0000_0000_0000 ++ circleBytes 0 0 (wholeBits 1) ++ circleBytes (wholeBits 10) 0 (wholeBits 2) ++ circleBytes 0 (wholeBits 9) (wholeBits 1))
+      ++ bytes "0 0 c004000000000000 bcb0000000000000 3ff0000000000000 1\n"
+      ++ bytes "1 0 4004000000000000 3cb0000000000000 3ff0000000000000 2\n"
+  -- factor 1/2, (0,0,1), (10,0,2), (0,9,1), three clusters: the largest box goes first, and the padding is half the root of 24. Ink numbers have two bytes.
+  pub padded : cardText
+      (factorBytes 0x3fe0_0000_0000_0000 ++ circleBytes 0 0 (wholeBits 1) 65535 ++ circleBytes (wholeBits 10) 0 (wholeBits 2) 0
+      ++ circleBytes 0 (wholeBits 9) (wholeBits 1) 258)
       ≡ bytes "circles 3 clusters 3 moved 0000000000000000 padding 4003988e1409212e\n"
-      ++ bytes "0 0 3feffffffffffff8 bcc0000000000000 3ff0000000000000\n"
-      ++ bytes "1 1 c011cc470a049097 bcc0000000000000 4000000000000000\n"
-      ++ bytes "2 2 4015cc470a049097 0000000000000000 3ff0000000000000\n"
+      ++ bytes "0 0 3feffffffffffff8 bcc0000000000000 3ff0000000000000 65535\n"
+      ++ bytes "1 1 c011cc470a049097 bcc0000000000000 4000000000000000 0\n"
+      ++ bytes "2 2 4015cc470a049097 0000000000000000 3ff0000000000000 258\n"
   -- "Either zero prints as sixteen 0s."
   pub minus-zero : float (neg nought) ≡ bytes "0000000000000000"
   -- "No circles: accepted, all 0."
@@ -243,12 +249,18 @@ cards =
 -- ---- refusals of the card reader, each by the text that `card` prints
 
 unfoldable pub unit : List ℕ
-unit = circleBytes 0 0 (wholeBits 1)
+unit = circleBytes 0 0 (wholeBits 1) 7
 
 -- a card so far: n circles and m regions
 unfoldable pub soFar : ℕ → ℕ → Card
 soFar n m =
-    record { factor = nought; circles = replicate n (circleOf nought nought one); masks = replicate m 1; patterns = replicate m 0; areas = replicate m nought }
+    record {
+      factor = nought;
+      circles = replicate n (circleOf nought nought one 7);
+      masks = replicate m 1;
+      patterns = replicate m 0;
+      areas = replicate m nought;
+    }
 
 pub record ReaderChecks : Type 0 where
   pub empty : cardText [] ≡ bytes "refused 9\n"
@@ -268,24 +280,31 @@ pub record ReaderChecks : Type 0 where
   pub region-2049 : nextRefusal (soFar 1 2048) (3 ∷ 0 ∷ 0 ∷ []) ≡ 2
   pub region-2048 : nextRefusal (soFar 1 2047) (regionBytes 5 0) ≡ 0
   -- a misplaced circle is looked at before the count
-  pub place-first : nextRefusal (soFar 64 1) (2 ∷ 24 ∷ 0 ∷ []) ≡ 9
+  pub place-first : nextRefusal (soFar 64 1) (2 ∷ 26 ∷ 0 ∷ []) ≡ 9
   -- "Then values, by the table."
-  pub bad-coordinate : cardText (factorBytes 0 ++ circleBytes 0x4130_0000_0000_0001 0 0) ≡ bytes "refused 3\n"
-  pub bad-radius : cardText (factorBytes 0 ++ circleBytes 0x4130_0000_0000_0000 0 0) ≡ bytes "refused 4\n"
+  pub bad-coordinate : cardText (factorBytes 0 ++ circleBytes 0x4130_0000_0000_0001 0 0 7) ≡ bytes "refused 3\n"
+  pub bad-radius : cardText (factorBytes 0 ++ circleBytes 0x4130_0000_0000_0000 0 0 7) ≡ bytes "refused 4\n"
   pub equal-masks : cardText (factorBytes (wholeBits 2) ++ unit ++ unit ++ regionBytes 3 0 ++ regionBytes 3 0) ≡ bytes "refused 5\n"
   pub bad-factor : cardText (factorBytes (wholeBits 2) ++ unit) ≡ bytes "refused 6\n"
   -- "64 circles pass, 65 give 1."
-  pub circles-64 : layoutRefusal (replicate 64 (wholeCircle 0 0 1)) nought [] [] ≡ 0
-  pub circles-65 : layoutRefusal (replicate 65 (wholeCircle 0 0 1)) nought [] [] ≡ 1
+  pub circles-64 : layoutRefusal (tab 64 (wholeCircle 0 0 1)) nought [] [] ≡ 0
+  pub circles-65 : layoutRefusal (replicate 65 (wholeCircle 0 0 1 1)) nought [] [] ≡ 1
+  -- two circles of one ink, after every other check
+  pub same-ink : cardText (factorBytes 0 ++ unit ++ unit) ≡ bytes "refused 14\n"
+  pub factor-first : cardText (factorBytes (wholeBits 2) ++ unit ++ unit) ≡ bytes "refused 6\n"
+  pub ink-last : layoutRefusal (tab 63 (wholeCircle 0 0 1) ++ wholeCircle 0 0 1 62 ∷ []) nought [] [] ≡ 14
+  pub ink-plain : plainGrouping (wholeCircle 0 0 1 5 ∷ wholeCircle 9 0 1 5 ∷ []) ≡ refusedGrouping 14
+  -- a circle field without a number
+  pub old-circle : cardText (factorBytes 0 ++ 2 ∷ 24 ∷ 0 ∷ eight 0 ++ eight 0 ++ eight (wholeBits 1)) ≡ bytes "refused 10\n"
   -- "Longer input prints `refused 2`"
   pub too-long : cardText (replicate 65537 0) ≡ bytes "refused 2\n"
   pub long-enough : cardText (replicate 65536 0) ≡ bytes "refused 9\n"
   -- the two field calls
   pub factor-read : readField fileJ 0 ≡ given (factorField nought)
-  pub circle-read : readField fileJ 38 ≡ given (circleField (wholeCircle 10 0 1))
+  pub circle-read : readField fileJ 40 ≡ given (circleField (wholeCircle 10 0 1 2))
   pub region-read : readField (regionBytes 5 (wholeBits 3)) 0 ≡ given (regionField 5 (whole 3))
   pub nan-read : readField (factorBytes 0xfff0_0000_0000_0001) 0 ≡ given (factorField nan)
-  pub read-at-end : readField fileJ 65 ≡ refused 11
+  pub read-at-end : readField fileJ 69 ≡ refused 11
   pub read-past-end : readField fileJ 900 ≡ refused 11
   pub read-empty : readField [] 0 ≡ refused 11
   pub read-unknown : readField (0 ∷ 0 ∷ 0 ∷ []) 0 ≡ refused 9
@@ -319,6 +338,11 @@ reader =
       bad-factor = refl;
       circles-64 = refl;
       circles-65 = refl;
+      same-ink = refl;
+      factor-first = refl;
+      ink-last = refl;
+      ink-plain = refl;
+      old-circle = refl;
       too-long = refl;
       long-enough = refl;
       factor-read = refl;
@@ -363,14 +387,18 @@ pub record PackingChecks : Type 0 where
   pub columns-65 : columnsAnswer 65 ≡ refused 1
   pub rows-61 : rows 61 10 ≡ 7
   -- the container goes to the origin and the circle to its middle
-  pub container : contained (wholeCircle 5 5 1 ∷ []) (squareBox (whole 4) (whole 4) (whole 10))
-      ≡ record { refusal = 0; container = squareBox nought nought (whole 10); circles = wholeCircle 0 0 1 ∷ [] }
+  pub container : contained (wholeCircle 5 5 1 1 ∷ []) (squareBox (whole 4) (whole 4) (whole 10))
+      ≡ record { refusal = 0; container = squareBox nought nought (whole 10); circles = wholeCircle 0 0 1 1 ∷ [] }
   -- a circle that reaches past stays where step 1 left it
-  pub past : contained (wholeCircle 5 5 9 ∷ []) (squareBox (whole 4) (whole 4) (whole 10))
-      ≡ record { refusal = 0; container = squareBox nought nought (whole 10); circles = wholeCircle 1 1 9 ∷ [] }
+  pub past : contained (wholeCircle 5 5 9 1 ∷ []) (squareBox (whole 4) (whole 4) (whole 10))
+      ≡ record { refusal = 0; container = squareBox nought nought (whole 10); circles = wholeCircle 1 1 9 1 ∷ [] }
   -- after a refusal all comes back as given
-  pub bad-container : contained (wholeCircle 5 5 1 ∷ []) (squareBox (whole 4) (whole 4) (neg one))
-      ≡ record { refusal = 7; container = squareBox (whole 4) (whole 4) (neg one); circles = wholeCircle 5 5 1 ∷ [] }
+  -- a container's side goes before the ink, and after 14 all comes back as given too
+  pub same-ink : contained (wholeCircle 5 5 1 1 ∷ wholeCircle 6 5 1 1 ∷ []) (squareBox (whole 4) (whole 4) (whole 10))
+      ≡ record { refusal = 14; container = squareBox (whole 4) (whole 4) (whole 10); circles = wholeCircle 5 5 1 1 ∷ wholeCircle 6 5 1 1 ∷ [] }
+  pub side-first : contained (wholeCircle 5 5 1 1 ∷ wholeCircle 6 5 1 1 ∷ []) (squareBox (whole 4) (whole 4) (neg one)) .refusal ≡ 7
+  pub bad-container : contained (wholeCircle 5 5 1 1 ∷ []) (squareBox (whole 4) (whole 4) (neg one))
+      ≡ record { refusal = 7; container = squareBox (whole 4) (whole 4) (neg one); circles = wholeCircle 5 5 1 1 ∷ [] }
 
 pub packs : PackingChecks
 unfolding computing box
@@ -384,5 +412,7 @@ packs =
       rows-61 = refl;
       container = refl;
       past = refl;
+      same-ink = refl;
+      side-first = refl;
       bad-container = refl;
     }

@@ -9,7 +9,7 @@ use lib.Ieee.Scale.{finite}
 use Rattle.shapes.specs.declared.circle.Circle.{Circle}
 use Rattle.scope.specs.Numbers.{_≤ᶠ_}
 use Rattle.scope.specs.Runs.{bit}
-use Rattle.shapes.specs.Records.{pointAt}
+use Rattle.shapes.specs.Records.{circleOf}
 use Rattle.scope.specs.Distance.{contains, intersects}
 
 -- "pairs of a 64-bit mask and an area", in the order given
@@ -41,7 +41,7 @@ linkedByRegions tol rs i j = eqb i j || share tol rs i j
 
 -- the circle at a place of the layout; past the end, one that is nowhere
 unfoldable pub nowhere : Circle
-nowhere = record { center = pointAt nan nan; radius = nan }
+nowhere = circleOf nan nan nan 0
 
 abbrev pub circle : List Circle → ℕ → Circle
 circle cs i = getD cs i nowhere

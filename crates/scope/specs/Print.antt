@@ -40,10 +40,11 @@ bitsOf x = cond (eq x nought) 0 (toBits binary64 x)
 unfoldable pub float : Float → List ℕ
 float x = sixteenDigits (bitsOf x)
 
--- "circle, cluster (both in decimal), then the f64 bits of x, y, radius"
+-- "circle, cluster (both in decimal), then the f64 bits of x, y, radius"; document 02, 1/14: the ink number "in decimal after the radius"
 unfoldable pub line : ℕ → ℕ → Circle → List ℕ
 line i a c =
-    decimal i ++ bytes " " ++ decimal a ++ bytes " " ++ float (c .center .x) ++ bytes " " ++ float (c .center .y) ++ bytes " " ++ float (c .radius) ++ bytes "\n"
+    decimal i ++ bytes " " ++ decimal a ++ bytes " " ++ float (c .center .x) ++ bytes " " ++ float (c .center .y) ++ bytes " " ++ float (c .radius)
+    ++ bytes " " ++ decimal (c .ink) ++ bytes "\n"
 
 unfoldable pub printed : Layout → List ℕ
 printed l =

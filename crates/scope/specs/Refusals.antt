@@ -1,7 +1,7 @@
--- Document 01, the table of causes in "Records": which number comes back. Each call's checks stand below the causes.
+-- Document 01, the table of causes in "Records", and document 02, which appends to it: which number comes back. Each call's checks stand below the causes.
 use Prim.Native.Nat.{ℕ, zero, suc}
 use mathlib.Core.Bool.{Bool, true, false, not, _&&_, _||_, cond}
-use mathlib.Core.List.{List, [], _∷_}
+use mathlib.Core.List.{List, [], _∷_, map}
 use lib.Dec.{eqb, ltb}
 use lib.ListN.{length}
 use lib.Ieee.{Float}
@@ -11,9 +11,9 @@ use Rattle.shapes.specs.declared.rectangle.Rectangle.{Rectangle}
 use Rattle.scope.specs.Runs.{any}
 use Rattle.scope.specs.Limits.{circleCap, regionCap, coordinateOk, radiusOk, factorOk, sideOk, paddingOk}
 
--- ---- "The lowest wins, but 13 goes before 2."
+-- ---- "The lowest wins, but 13 goes before 2." Document 02, 1/14: 14 is "looked for after every check of document 01".
 unfoldable pub causes : List ℕ
-causes = 1 ∷ 13 ∷ 2 ∷ 3 ∷ 4 ∷ 5 ∷ 6 ∷ 7 ∷ 8 ∷ 9 ∷ 10 ∷ 11 ∷ 12 ∷ []
+causes = 1 ∷ 13 ∷ 2 ∷ 3 ∷ 4 ∷ 5 ∷ 6 ∷ 7 ∷ 8 ∷ 9 ∷ 10 ∷ 11 ∷ 12 ∷ 14 ∷ []
 
 -- What a call checks: numbers, and whether the cause of each holds.
 abbrev pub Checks : Type 0
@@ -90,7 +90,19 @@ badSide r = not (sideOk (r .width) && sideOk (r .height))
 unfoldable pub badPadding : Float → Bool
 badPadding x = not (paddingOk x)
 
--- ---- what each call checks; 9, 10 and 11 stand with the card file, 12 with the root
+-- 14, "Two circles of one layout may not have the same number": the number of one stands again further on
+unfoldable pub repeated : List ℕ → Bool
+repeated [] = false
+repeated (k ∷ ks) = any (eqb k) ks || repeated ks
+
+-- the ink numbers of circles, in their order
+unfoldable pub inks : List Circle → List ℕ
+inks cs = map (λ c. c .ink) cs
+
+unfoldable pub sameInk : List Circle → Bool
+sameInk cs = repeated (inks cs)
+
+-- ---- what each call checks; 9, 10 and 11 stand with the card file, 12 with the root. "Duplicate ink numbers give 14 wherever a call takes a list of circles"
 
 -- the distance of two points
 unfoldable pub pointsRefusal : Point → Point → ℕ
@@ -106,7 +118,7 @@ circlePointRefusal c p = refusal ((3, badCentre c || badPoint p) ∷ (4, badRadi
 
 -- `find_clusters`
 unfoldable pub circlesRefusal : List Circle → ℕ
-circlesRefusal cs = refusal ((1, tooMany (length cs)) ∷ (3, any badCentre cs) ∷ (4, any badRadius cs) ∷ [])
+circlesRefusal cs = refusal ((1, tooMany (length cs)) ∷ (3, any badCentre cs) ∷ (4, any badRadius cs) ∷ (14, sameInk cs) ∷ [])
 
 -- `find_clusters_from_exclusive_regions`
 unfoldable pub regionsRefusal : ℕ → List ℕ → List Float → ℕ
@@ -124,11 +136,13 @@ packRefusal rects padding = refusal ((1, tooMany (length rects)) ∷ (7, any bad
 -- `normalize_layout_with_container`
 unfoldable pub containerRefusal : List Circle → Rectangle → ℕ
 containerRefusal cs container =
-    refusal ((1, tooMany (length cs)) ∷ (3, any badCentre cs || badPoint (container .center)) ∷ (4, any badRadius cs) ∷ (7, badSide container) ∷ [])
+    refusal
+    ((1, tooMany (length cs)) ∷ (3, any badCentre cs || badPoint (container .center)) ∷ (4, any badRadius cs) ∷ (7, badSide container)
+    ∷ (14, sameInk cs) ∷ [])
 
 -- the whole layout, `normalize_layout_with_clusters`
 unfoldable pub layoutRefusal : List Circle → Float → List ℕ → List Float → ℕ
 layoutRefusal cs factor masks areas =
     refusal
     ((1, tooMany (length cs)) ∷ (13, unequal masks areas) ∷ (2, tooManyRegions (length masks)) ∷ (3, any badCentre cs) ∷ (4, any badRadius cs)
-    ∷ (5, not (rising masks)) ∷ (6, badFactor factor) ∷ [])
+    ∷ (5, not (rising masks)) ∷ (6, badFactor factor) ∷ (14, sameInk cs) ∷ [])

@@ -1,4 +1,6 @@
--- Document 01, "Records": a point, a box, a rectangle and a circle are records of floats, here by their fields.
+-- Document 01, "Records": a point, a box and a rectangle are records of floats, and so is a circle, with the number of its ink (document 02, 1/14).
+-- Here they are by their fields.
+use Prim.Native.Nat.{ℕ}
 use lib.Ieee.{Float}
 use Rattle.shapes.specs.declared.point.Point.{Point}
 use Rattle.shapes.specs.declared.bounds.Bounds.{Bounds}
@@ -14,6 +16,6 @@ boxOf x X y Y = record { «x_min» = x; «x_max» = X; «y_min» = y; «y_max» 
 abbrev pub rectangleOf : Point → Float → Float → Rectangle
 rectangleOf center width height = record { center = center; width = width; height = height }
 
--- the circle (x, y, radius), its radius as it is
-abbrev pub circleOf : Float → Float → Float → Circle
-circleOf x y r = record { center = pointAt x y; radius = r }
+-- the circle (x, y, radius), its radius as it is, of ink k
+abbrev pub circleOf : Float → Float → Float → ℕ → Circle
+circleOf x y r k = record { center = pointAt x y; radius = r; ink = k }

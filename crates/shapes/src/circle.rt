@@ -1,4 +1,4 @@
-// A circle: its centre, its radius, and the lift of its radius.
+// A circle: its centre, its radius with its lift, and the number of its ink.
 ghost use mathlib.Core.Path.{_≡_};
 ghost use Rattle.shapes.specs.Boxes.{circleBox};
 ghost use Rattle.shapes.specs.Limits.{radiusInRange};
@@ -11,6 +11,7 @@ use crate::point::Point;
 pub struct Circle {
     pub center: Point,
     pub radius: f64,
+    pub ink: u16,
 }
 
 impl Circle {
@@ -37,13 +38,14 @@ impl Circle {
         maximum(radius, Self::MIN_POSITIVE)
     }
 
-    // The circle of three numbers. A radius that is too small, 0 or negative is lifted, so that the circle is one.
-    pub fn from_params(x: f64, y: f64, radius: f64) -> Self
-        ensures { λ r. ⌜ r ≡ liftedCircle x y radius ⌝ }
+    // The circle of these numbers. A radius that is too small, 0 or negative is lifted, so that the circle is one.
+    pub fn from_params(x: f64, y: f64, radius: f64, ink: u16) -> Self
+        ensures { λ r. ⌜ r ≡ liftedCircle x y radius ink ⌝ }
     {
         Circle {
             center: Point::new(x, y),
             radius: Self::lift(radius),
+            ink,
         }
     }
 
@@ -59,7 +61,13 @@ impl Circle {
         self.radius
     }
 
-    // The circle at another centre. Every move goes through here, so what else the record holds comes along.
+    pub fn ink(self) -> u16
+        ensures { λ r. ⌜ r ≡ self .ink ⌝ }
+    {
+        self.ink
+    }
+
+    // The circle at another centre. Every move goes through here, so its ink comes along.
     pub fn moved_to(mut self, x: f64, y: f64) -> Self
         ensures { λ r. ⌜ r ≡ movedTo self x y ⌝ }
     {

@@ -6,7 +6,7 @@ use lib.ListN.{take}
 use Rattle.scope.specs.Limits.{circleCap}
 use Rattle.layout.specs.Answers.{laidOut}
 use Rattle.card_file.proofs.Filling.{used-length}
-use Rattle.card_file.proofs.Texts.{laid-out-prints}
+use Rattle.card_file.proofs.Texts.{laid-out-prints, laid-out-fits}
 use Rattle.card_file.proofs.layout_text.Statement.{statement}
 use Rattle.card_file.proofs.layout_text.Tie as tie
 
@@ -29,7 +29,14 @@ normalize-layout-with-clusters-by-value-requires :
 normalize-layout-with-clusters-by-value-requires c κs = search needs
 
 printed-requires : tie.Need-printed-requires
-printed-requires c κs = search needs
+unfolding circleCap
+printed-requires c κs =
+    let l = c .before .before .before .normalize-layout-with-clusters-by-value in
+    let s = c .before .before .before .before .before .before .before .before .before in
+    let card = s .args .card in
+    let used = s .pre .circles in
+    let fits = laid-out-fits (card .n) (card .circles) (card .factor) (take (card .m) (card .masks)) (take (card .m) (card .areas)) (used .long) (used .fits) (laidOut (l .result)) (l .ensures .0) in
+    (used .fits, fits .0, fits .1)
 
 returns : tie.Need-returns
 unfolding circleCap

@@ -20,13 +20,13 @@ clusters-at-requires c κs = search needs
 returns : tie.Need-returns
 unfolding circleCap
 returns c =
-    let s = c .before .before .before .before in
-    let S = s .before .before .before .before in
+    let s = c .before .before .before .before .before in
+    let S = s .before .before .before .before .before in
     let a = S .args in
     let e = s .split-array .ensures in
     c .clusters-at .ensures
-    ∙ rw (e .1, e .2, e .3)
-    (split-grouping (a .n) (take (a .n) (a .circles)) _ _ _ (λ h. let inside : a .n ≤ length (a .circles) = omega (arith, few (a .n) h, S .good .0 .1 .0 .1) in length-take-le (a .n) (a .circles) inside))
+    ∙ rw (e .1, e .2, e .3, e .4)
+    (split-grouping (a .n) (take (a .n) (a .circles)) _ _ _ _ (λ h. let inside : a .n ≤ length (a .circles) = omega (arith, few (a .n) h, S .good .0 .1 .0 .1) in length-take-le (a .n) (a .circles) inside))
 
 pub find-clusters-by-value-spec : {M : Type 1} → statement M
 find-clusters-by-value-spec = tie.close (tie.spec split-array-requires clusters-at-requires returns)

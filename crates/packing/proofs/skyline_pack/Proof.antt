@@ -46,7 +46,7 @@ use Rattle.shapes.proofs.rectangle.Rectangle as T
 use Rattle.intake.specs.Limits.{maxCircles}
 use Rattle.intake.specs.Columns.{widthsOf, heightsOf}
 use Rattle.intake.proofs.Lending.{refTo, lent-to-read, read-back}
-use Rattle.intake.proofs.NumberArrays.{F64s, zeroFloat, blanks, blank-is, numbersTy, same-typed, same-lies, array-room}
+use Rattle.intake.proofs.NumberArrays.{float64, F64s, numbersTy, noughts, noughts-typed, noughts-lie, numbers-room}
 use Rattle.intake.proofs.Splitting.{splitOf}
 use Rattle.intake.proofs.SidesCall.{SidesContract, splits-sides}
 use Rattle.scope.specs.Packing.{skylinePack}
@@ -73,7 +73,7 @@ stayed = (stay-none-slice (0 ∷ []) tt (plain (λ _. T.the-row)) yes, (stay-non
 
 -- the arrays as they are made
 abbrev zeros : List Float
-zeros = blanks maxCircles
+zeros = noughts float64
 
 module _ {M : Type 1} (𝓤 : URA M) (H : Heap 𝓤) (A : Atoms 𝓤) (at-mem : Memory → SProp 𝓤) (run : Routine → Fun 𝓤) where
   abbrev Core : Contract 𝓤
@@ -143,14 +143,14 @@ module _ {M : Type 1} (𝓤 : URA M) (H : Heap 𝓤) (A : Atoms 𝓤) (W : Given
         qed W ((‵ (flft κ q) ⊛ ‵ ftrue) ∷ ‵ (owns (ShrSlice (named 0) κ T.the-row ∷ f64 ∷ []) (x, (padding, tt)) at) ∷ []) ∵ enter ! (𝓣 .C) (𝓣 .Λ) code.function (s ∷ vfloat binary64 padding ∷ []) _ $
         alloc1 ! (λ l₀. alloc1 ! (λ l₁. alloc1 ! (λ l₂. alloc1 ! (λ l₃. alloc1 ! (λ l₄. alloc1 ! (λ l₅. alloc1 ! (λ l₆. alloc1 ! (λ l₇. alloc1 ! (λ l₈. alloc1 ! (λ l₉. alloc1 ! (λ l₁₀. alloc0 ! $ params1 ! $
         pass1 ! (init ! 18 refl (tt, (tt, (record { fits = gn .0 }, tt)))) $ pass1 ! (init ! 16 refl (float-lawful 𝓤 H A W binary64 .typed padding _ gp .0)) $ pass0 ! $
-        assigns ! (rep ! maxCircles (float-lit ! tt)) (from ! (stop !)) (init ! 14 refl (same-typed 𝓤 H A W maxCircles zeroFloat blank-is)) $
-        assigns ! (rep ! maxCircles (float-lit ! tt)) (from ! (stop !)) (init ! 12 refl (same-typed 𝓤 H A W maxCircles zeroFloat blank-is)) $
+        assigns ! (rep ! maxCircles (float-lit ! tt)) (from ! (stop !)) (init ! 14 refl (noughts-typed 𝓤 H A W float64)) $
+        assigns ! (rep ! maxCircles (float-lit ! tt)) (from ! (stop !)) (init ! 12 refl (noughts-typed 𝓤 H A W float64)) $
         assigns ! (of-opd ! (load ! (from ! (fld ! refl (stop !))) (look-in ! 18 (sub ! 1 refl (whole !))))) (from ! (stop !)) (init ! 10 refl (tt, record { fits = gn .0 })) $
         assigns ! (addr ! (from ! (stop !))) (from ! (stop !)) (init ! 6 refl (tt, tt)) $ assigns ! (addr ! (from ! (stop !))) (from ! (stop !)) (init ! 4 refl (tt, tt)) $
         -- the run is shared: one part of it goes on, one stays
         move ! (23 ∷ []) $ fsplit ! $ use1 W (‵ Lent ⊛ ‵ Lent) (shr-slice-copy 𝓤 H A W (named 0) κ T.the-row .twice x (s ∷ [])) $ split ! $ move ! (25 ∷ []) $ split ! $ move ! (1 ∷ []) $ drop ! $
-        move ! (16 ∷ []) $ use1 W (‵ (partAt F64s fullShare zeros l₄ 0)) (same-lies 𝓤 H A W maxCircles zeroFloat blank-is l₄ 0) $
-        move ! (18 ∷ []) $ use1 W (‵ (partAt F64s fullShare zeros l₃ 0)) (same-lies 𝓤 H A W maxCircles zeroFloat blank-is l₃ 0) $
+        move ! (16 ∷ []) $ use1 W (‵ (partAt F64s fullShare zeros l₄ 0)) (noughts-lie 𝓤 H A W float64 l₄) $
+        move ! (18 ∷ []) $ use1 W (‵ (partAt F64s fullShare zeros l₃ 0)) (noughts-lie 𝓤 H A W float64 l₃) $
         move ! (4 ∷ 2 ∷ 0 ∷ 1 ∷ []) $ splits-sides ! (fmOf 𝓤 H (W .laws) 𝓣) at-mem run known-split κ q x zeros zeros l₃ l₄ (λ p i₀ i₁. (and-then ! (load ! (from ! (stop !)) (look ! 21 refl)) (and-then ! (load ! (from ! (stop !)) (look ! 11 refl)) (and-then ! (load ! (from ! (stop !)) (look ! 9 refl)) (no-more !))))) (λ small.
         land ! (from ! (stop !)) (init ! 13 refl (tt, record { fits = small })) $
         assigns ! (addr ! (from ! (stop !))) (from ! (stop !)) (init ! 7 refl (tt, tt)) $ assigns ! (addr ! (from ! (stop !))) (from ! (stop !)) (init ! 5 refl (tt, tt)) $
@@ -167,8 +167,8 @@ module _ {M : Type 1} (𝓤 : URA M) (H : Heap 𝓤) (A : Atoms 𝓤) (W : Given
         move ! (1 ∷ []) $ split ! $ move ! (1 ∷ []) $ split ! $ move ! (1 ∷ []) $ drop ! $
         move ! (1 ∷ 4 ∷ []) $ read-back ! tt F64s (splitOf widthsOf boxes zeros) l₃ 0 $ move ! (1 ∷ 3 ∷ []) $ read-back ! tt F64s (splitOf heightsOf boxes zeros) l₄ 0 $
         returns ! (look ! 24 refl) $
-        move ! (1 ∷ []) $ use1 W (‵ (froom (numbersTy maxCircles) l₃ 0)) (array-room 𝓤 H A W maxCircles (splitOf widthsOf boxes zeros) l₃ 0) $
-        move ! (1 ∷ []) $ use1 W (‵ (froom (numbersTy maxCircles) l₄ 0)) (array-room 𝓤 H A W maxCircles (splitOf heightsOf boxes zeros) l₄ 0) $
+        move ! (1 ∷ []) $ use1 W (‵ (froom (numbersTy float64) l₃ 0)) (numbers-room 𝓤 H A W float64 (splitOf widthsOf boxes zeros) l₃) $
+        move ! (1 ∷ []) $ use1 W (‵ (froom (numbersTy float64) l₄ 0)) (numbers-room 𝓤 H A W float64 (splitOf heightsOf boxes zeros) l₄) $
         forget ! 24 refl $ forget ! 22 refl $ forget ! 20 refl $ forget ! 16 refl $ forget ! 14 refl $ forget ! 12 refl $ forget ! 10 refl $ forget ! 8 refl $ forget ! 6 refl $
         move ! (24 ∷ 25 ∷ []) $ free1 ! $ move ! (22 ∷ 23 ∷ []) $ free1 ! $ move ! (20 ∷ 21 ∷ []) $ free1 ! $ move ! (1 ∷ 19 ∷ []) $ free1 ! $ move ! (0 ∷ 17 ∷ []) $ free1 ! $ move ! (14 ∷ 15 ∷ []) $ free1 ! $ move ! (12 ∷ 13 ∷ []) $ free1 ! $ move ! (10 ∷ 11 ∷ []) $ free1 ! $ move ! (8 ∷ 9 ∷ []) $ free1 ! $ move ! (6 ∷ 7 ∷ []) $ free1 ! $ move ! (4 ∷ 5 ∷ []) $ free1 ! $ free0 ! $
         keep ! (2 ∷ 3 ∷ 1 ∷ 0 ∷ []) $

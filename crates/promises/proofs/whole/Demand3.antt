@@ -24,7 +24,7 @@ use Rattle.promises.specs.Demand3.{bound, gapBound, Demand3, GapKept, Di
 use Rattle.laws.proofs.Runs.{getD-filled-any}
 use Rattle.laws.proofs.Numbering.{Numbering}
 use Rattle.laws.proofs.Clusters.{clusters-numbering, same-number-iff-chain, same-filled-number-iff-chain}
-use Rattle.laws.proofs.Accepted.{layout-accepted-iff}
+use Rattle.laws.proofs.Accepted.{within-limits}
 use Rattle.laws.proofs.AfterRefusal.{layout-answers}
 use Rattle.promises.proofs.numbers.Ranges.{Sound, circle-accepted}
 use Rattle.promises.proofs.gauge.Carried.{Shifted}
@@ -133,7 +133,7 @@ module _ (cs : List Circle) (rs : List Region) (factor : Float) (sound : (i : �
 pub layout-promises : Demand3
 unfolding Demand3
 layout-promises cs factor masks areas d h =
-    let a = layout-accepted-iff cs factor masks areas .0 h in
+    let a = within-limits cs factor masks areas h in
     let e = layout-answers cs factor masks areas .on-acceptance h in
     subst (λ (l : Layout). Promises bound cs (regions masks areas) (l .result) (l .circles)) (sym e)
     (arranged-promises cs (regions masks areas) factor (λ i l. circle-accepted (circle cs i) (d .x i l) (d .y i l) (d .radius i l) (a .centres i l .0) (a .centres i l .1) (a .radii i l)) (d .radius) (a .radii) (d .factor) (a .factor-inside)

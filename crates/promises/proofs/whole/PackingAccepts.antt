@@ -17,7 +17,7 @@ use Rattle.shapes.specs.declared.rectangle.Rectangle.{Rectangle}
 use Rattle.scope.specs.Numbers.{nought}
 use Rattle.scope.specs.Limits.{circleCap, within, sideOk, paddingOk, factorOk}
 use Rattle.scope.specs.Links.{regions, circle}
-use Rattle.scope.specs.Refusals.{badSide, badPadding, packRefusal, layoutRefusal}
+use Rattle.scope.specs.Refusals.{badSide, badPadding, packRefusal}
 use Rattle.scope.specs.Groups.{Clusters, clusters}
 use Rattle.scope.specs.Tolerance.{tolerance}
 use Rattle.scope.specs.Offset.{offset}
@@ -28,7 +28,8 @@ use Rattle.scope.specs.Promises.{units}
 use Rattle.promises.specs.Demand3.{AreDoubles}
 use Rattle.laws.proofs.Cases.{and-iff, not-iff}
 use Rattle.laws.proofs.Runs.{any-at}
-use Rattle.laws.proofs.Accepted.{not-too-many-iff, layout-accepted-iff}
+use Rattle.laws.specs.Limits.{WithinLimits}
+use Rattle.laws.proofs.Accepted.{not-too-many-iff}
 use Rattle.laws.proofs.EntryPoints.{pack-reads}
 use Rattle.promises.proofs.numbers.Bounded.{Bounded, Upto}
 use Rattle.promises.proofs.numbers.Ranges.{circle-accepted}
@@ -79,12 +80,11 @@ module _ {g : Clusters} {cs : List Circle} (G : Gauged64 g cs) (factor : Float) 
         ),
       )
 
--- ---- of an accepted call
-pub layout-packs : (cs : List Circle) (factor : Float) (masks : List ℕ) (areas : List Float) → AreDoubles cs factor → layoutRefusal cs factor masks areas ≡ 0
+-- ---- of a call within the limits
+pub layout-packs : (cs : List Circle) (factor : Float) (masks : List ℕ) (areas : List Float) → AreDoubles cs factor → WithinLimits cs factor masks areas
     → let rs = regions masks areas in let g = clusters (length cs) rs (tolerance rs) in let turned = gauged (g .count) (g .numbers) (offset cs rs .circles) in
     packRefusal (boxes (g .count) (g .numbers) turned) (padding (boxes (g .count) (g .numbers) turned) factor) ≡ 0
-layout-packs cs factor masks areas d h =
-    let a = layout-accepted-iff cs factor masks areas .0 h in
+layout-packs cs factor masks areas d a =
     packing-accepts
     (handed-over cs (regions masks areas) factor (λ i l. circle-accepted (circle cs i) (d .x i l) (d .y i l) (d .radius i l) (a .centres i l .0) (a .centres i l .1) (a .radii i l)) (d .radius) (a .radii) (d .factor) (a .factor-inside) (a .few-circles))
     factor (d .factor) (a .factor-inside)

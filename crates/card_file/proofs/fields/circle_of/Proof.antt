@@ -22,12 +22,24 @@ word-at-requires-3 c κs = search needs
 float-of-requires-3 : tie.Need-float-of-requires-3
 float-of-requires-3 c κs = search needs
 
+short-at-requires : tie.Need-short-at-requires
+short-at-requires c κs = search needs
+
 returns : tie.Need-returns
 unfolding circleFrom
 returns c =
-    let y = c .before .before in
+    let radius = c .before in
+    let y = radius .before .before in
     let x = y .before .before in
-    rw (x .float-of .ensures, x .before .word-at .ensures, y .float-of2 .ensures, y .before .word-at2 .ensures, c .float-of3 .ensures, c .before .word-at3 .ensures)
+    rw (
+      x .float-of .ensures,
+      x .before .word-at .ensures,
+      y .float-of2 .ensures,
+      y .before .word-at2 .ensures,
+      radius .float-of3 .ensures,
+      radius .before .word-at3 .ensures,
+      c .short-at .ensures,
+    )
 
 pub circle-of-spec : {M : Type 1} → statement M
 circle-of-spec =
@@ -39,4 +51,5 @@ circle-of-spec =
     float-of-requires-2
     word-at-requires-3
     float-of-requires-3
+    short-at-requires
     returns)

@@ -1,8 +1,8 @@
 -- `put_count` meets its contract.
 use native.Mathlib.Omega.{arith}
 use borrow.Author.Needs.{needs}
+use Rattle.laws.proofs.Decimal.{decimal-length}
 use Rattle.card_file.proofs.Putting.{put-both}
-use Rattle.laws.proofs.Decimal.{word-length}
 use Rattle.card_file.proofs.lines.put_count.Statement.{statement}
 use Rattle.card_file.proofs.lines.put_count.Tie as tie
 
@@ -12,14 +12,14 @@ put-bytes-requires c κs = search needs
 put-decimal-requires : tie.Need-put-decimal-requires
 put-decimal-requires c κs =
     let start = c .before .before .before .before in
-    omega (arith, word-length (start .args .n) (start .fits .n .fits), c .before .put-bytes .ensures .place)
+    omega (arith, decimal-length 4 (start .args .n) (start .pre .0), c .before .put-bytes .ensures .place)
 
 returns : tie.Need-returns
 returns c =
     let start = c .before .before .before .before .before in
     let word = c .before .before .put-bytes .ensures in (
       put-both word (c .put-decimal .ensures),
-      omega (arith, word-length (start .args .n) (start .fits .n .fits), word .place, c .put-decimal .ensures .place),
+      omega (arith, decimal-length 4 (start .args .n) (start .pre .0), word .place, c .put-decimal .ensures .place),
     )
 
 pub put-count-spec : {M : Type 1} → statement M

@@ -1,15 +1,16 @@
 -- `put_lines` meets its contract: after i turns the lines of the first i circles are put.
-use Prim.Native.Nat.{_≤_, _-_, _+_, _*_}
+use Prim.Native.Nat.{_≤_, _-_, _+_}
 use native.Mathlib.Omega.{arith}
 use mathlib.Core.Path.{_≡_}
+use native.Mathlib.Decide.{decLt}
 use Rattle.scope.specs.Links.{nowhere}
-use Rattle.card_file.specs.Texts.{Put, linesOf}
+use Rattle.card_file.specs.Texts.{Put, linesOf, linesRoom}
 use Rattle.card_file.proofs.Printing.{lines-none, lines-next}
 use Rattle.card_file.proofs.lines.put_lines.Statement.{statement}
 use Rattle.card_file.proofs.lines.put_lines.Tie as tie
 
 abbrev Inv-loop : tie.InvT-loop
-Inv-loop out₀ at n circles numbers next₀ i₀ out next i = (i ≤ n) × Put (linesOf circles numbers i) at out₀ next out × (next ≤ at + 59 * i)
+Inv-loop out₀ at n circles numbers next₀ i₀ out next i = (i ≤ n) × Put (linesOf circles numbers i) at out₀ next out × (next ≤ at + linesRoom i)
 
 abbrev μ-loop : tie.MeasureT-loop
 μ-loop out₀ at n circles numbers next₀ i₀ out next i = n - i
@@ -27,7 +28,9 @@ array-copy-out-put-line : tie.Need-array-copy-out-put-line Inv-loop μ-loop
 array-copy-out-put-line c = omega arith
 
 put-line-requires : tie.Need-put-line-requires Inv-loop μ-loop
-put-line-requires c κs = (omega arith, omega arith)
+put-line-requires c κs =
+    let loop = c .before .before .before in
+    (omega arith, loop .before .pre .1 (loop .loop .i) (omega arith), omega arith)
 
 add-i : tie.Need-add-i Inv-loop μ-loop
 add-i c = omega arith
@@ -40,7 +43,14 @@ unfolding nowhere
 loop-again c =
     let l = c .before .before .before .before .loop in
     let args = c .before .before .before .before .before .args in
-    (omega arith, lines-next (args .t3) (args .t5) (l .i) (l .inv .1) (c .put-line .ensures .0), omega (arith, l .inv .2, c .put-line .ensures .1))
+    let put = c .put-line .ensures in (
+      omega arith,
+      lines-next (args .t3) (args .t5) (l .i) (l .inv .1) (put .0),
+      elim (decLt (l .i) 10) [
+        | yes h ↦ omega (arith, l .inv .2, put .2 h)
+        | no h ↦ omega (arith, l .inv .2, put .1)
+      ],
+    )
 
 returns : tie.Need-returns Inv-loop μ-loop
 returns c =

@@ -1,26 +1,26 @@
 -- `put_pair` meets its contract.
 use native.Mathlib.Omega.{arith}
 use Rattle.scope.specs.Text.{bytes}
+use Rattle.laws.proofs.Decimal.{decimal-one-length, decimal-length}
 use Rattle.card_file.proofs.Putting.{put-both}
-use Rattle.laws.proofs.Decimal.{byte-length}
 use Rattle.card_file.proofs.lines.put_pair.Statement.{statement}
 use Rattle.card_file.proofs.lines.put_pair.Tie as tie
 
 put-decimal-requires : tie.Need-put-decimal-requires
-put-decimal-requires c κs = let start = c .before in omega (arith, byte-length (start .args .a) (start .pre .0))
+put-decimal-requires c κs = let start = c .before in omega (arith, decimal-length 1 (start .args .a) (start .pre .0))
 
 put-byte-requires : tie.Need-put-byte-requires
 put-byte-requires c κs =
     let start = c .before .before .before in
-    omega (arith, byte-length (start .args .a) (start .pre .0), c .before .put-decimal .ensures .place)
+    omega (arith, decimal-length 1 (start .args .a) (start .pre .0), c .before .put-decimal .ensures .place)
 
 put-decimal-requires-2 : tie.Need-put-decimal-requires-2
 put-decimal-requires-2 c κs =
     let start = c .before .before .before .before .before in
     omega (
       arith,
-      byte-length (start .args .a) (start .pre .0),
-      byte-length (start .args .b) (start .pre .1),
+      decimal-length 1 (start .args .a) (start .pre .0),
+      decimal-length 1 (start .args .b) (omega arith),
       c .before .before .before .put-decimal .ensures .place,
       c .before .put-byte .ensures .place,
     )
@@ -33,7 +33,8 @@ returns c =
     let space = c .before .before .put-byte .ensures in
     let second = c .put-decimal2 .ensures in (
       put-both (put-both first space) second,
-      omega (arith, byte-length (start .args .a) (start .pre .0), byte-length (start .args .b) (start .pre .1), first .place, space .place, second .place),
+      omega (arith, decimal-length 1 (start .args .a) (start .pre .0), decimal-length 1 (start .args .b) (omega arith), first .place, space .place, second .place),
+      λ h. omega (arith, decimal-one-length (start .args .a) h, decimal-one-length (start .args .b) (omega arith), first .place, space .place, second .place),
     )
 
 pub put-pair-spec : {M : Type 1} → statement M

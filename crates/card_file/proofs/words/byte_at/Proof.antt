@@ -1,11 +1,10 @@
 -- `byte_at` meets its contract.
-use Prim.Native.Nat.{_-_}
 use native.Mathlib.Omega.{arith}
 use borrow.Author.Needs.{needs}
 use mathlib.Core.Path.{sym, _∙_}
 use borrow.Author.Needs.{needs}
 use lib.Seq.{getD-drop}
-use Rattle.card_file.proofs.EightBytes.{past-end}
+use Rattle.card_file.proofs.FromBytes.{past-end}
 use Rattle.card_file.proofs.words.byte_at.Statement.{statement}
 use Rattle.card_file.proofs.words.byte_at.Tie as tie
 

@@ -1,9 +1,8 @@
 -- `word_at` meets its contract.
-use Prim.Native.Nat.{_-_}
 use native.Mathlib.Omega.{arith}
 use borrow.Author.Needs.{needs}
 use borrow.Author.Needs.{needs}
-use Rattle.card_file.proofs.EightBytes.{word-is}
+use Rattle.card_file.proofs.FromBytes.{word-is}
 use Rattle.card_file.proofs.words.word_at.Statement.{statement}
 use Rattle.card_file.proofs.words.word_at.Tie as tie
 

@@ -1,23 +1,18 @@
 -- `any_outside` meets its contract: it is known whether a number before place i is outside.
-use Prim.Native.Nat.{ℕ, _+_, _-_, _≤_}
+use Prim.Native.Nat.{_-_, _≤_}
 use native.Mathlib.Omega.{arith}
-use native.Mathlib.Numerals.{add-one}
 use borrow.Author.Needs.{needs}
-use mathlib.Core.Path.{_≡_, refl, sym}
-use mathlib.Core.Bool.{Bool, not, _||_, or-true, or-false}
-use mathlib.Core.Logic.{⊎-elim}
+use mathlib.Core.Path.{_≡_, refl, sym, ap, _∙_}
+use mathlib.Core.Bool.{not}
+use mathlib.Core.Logic.{⊎-map}
 use lib.ListN.{length}
 use lib.Ieee.{nan}
 use Rattle.scope.specs.Runs.{someBelow}
 use Rattle.scope.specs.Limits.{within}
 use Rattle.intake.specs.Columns.{at}
-use Rattle.intake.proofs.Columns.{any-below}
+use Rattle.intake.proofs.Columns.{any-below, flagged}
 use Rattle.intake.proofs.causes.any_outside.Statement.{statement}
 use Rattle.intake.proofs.causes.any_outside.Tie as tie
-
-one-more : (p : ℕ → Bool) (i : ℕ) → someBelow (i + 1) p ≡ someBelow i p || p i
-unfolding someBelow
-one-more p i = rw add-one
 
 abbrev Inv-loop : tie.InvT-loop
 Inv-loop list low high outside₀ i₀ outside i = (i ≤ length list) × (outside ≡ someBelow i (λ b. not (within low high (at list b))))
@@ -50,8 +45,8 @@ loop-again c =
     let l = s .before .before .before .loop in
     let a = s .before .before .before .before .before .args in (
       omega arith,
-      rw (one-more (λ b. not (within (a .low) (a .high) (at (a .list .now) b))) (l .i), ← s .is-within .ensures, ← l .inv .1)
-          (⊎-elim (λ w. rw (w .1, w .0 .taken) (sym (or-true (l .outside)))) (λ w. rw (w .1, w .0 .left) (sym (or-false (l .outside)))) (c .if1 .came)),
+      flagged (λ b. not (within (a .low) (a .high) (at (a .list .now) b))) (l .i) (l .outside) (l .inv .1)
+          (⊎-map (λ w. (ap not (sym (s .is-within .ensures)) ∙ w .0 .taken, w .1)) (λ w. (ap not (sym (s .is-within .ensures)) ∙ w .0 .left, w .1)) (c .if1 .came)),
     )
 
 returns : tie.Need-returns Inv-loop μ-loop

@@ -8,7 +8,7 @@ use lib.Ieee.{Float}
 use Rattle.scope.specs.Runs.{any}
 use Rattle.scope.specs.Limits.{coordinateOk}
 use Rattle.intake.proofs.CauseWords.{either-cause, joined}
-use Rattle.intake.proofs.Columns.{front-centre, front-radius}
+use Rattle.intake.proofs.Columns.{front-centre, front-radius, front-inks}
 use Rattle.intake.proofs.causes.of_lists.Statement.{statement}
 use Rattle.intake.proofs.causes.of_lists.Tie as tie
 
@@ -54,16 +54,37 @@ part-of-radii-end c = search needs
 of-radii-requires : tie.Need-of-radii-requires
 of-radii-requires c κs = search needs
 
+sub-of-inks : tie.Need-sub-of-inks
+sub-of-inks c = search needs
+
+part-of-inks-start : tie.Need-part-of-inks-start
+part-of-inks-start c = search needs
+
+part-of-inks-end : tie.Need-part-of-inks-end
+part-of-inks-end c = search needs
+
+of-inks-requires : tie.Need-of-inks-requires
+of-inks-requires c κs = search needs
+
 returns : tie.Need-returns
 returns c =
-    let S = c .before .before .before .before .before .before .before .before .before .before .before in
+    let r = c .before .before in
+    let y = r .before .before in
+    let x = y .before .before in
+    let count = x .before .before in
+    let room = count .before .room in
+    let S = count .before .before .before .before .before .before in
     let a = S .args in
     let p = S .pre in
-    let room = c .before .before .before .before .before .before .before .room in
     let bad : List Float → Bool = λ l. any (λ v. not (coordinateOk v)) (take (room .result) l) in
-    let centre = either-cause 3 (bad (a .xs .now)) (bad (a .ys .now)) _ _ (rw sub-zero at (c .before .before .before .before .of-coordinates .ensures)) (rw sub-zero at (c .before .before .of-coordinates2 .ensures)) in
-    let all = joined _ _ ((1, _) ∷ (3, _) ∷ []) ((4, _) ∷ []) (joined _ _ ((1, _) ∷ []) ((3, _) ∷ []) (c .before .before .before .before .before .before .of-count .ensures) centre) (rw sub-zero at (c .of-radii .ensures)) in
-    rw (front-centre (a .n) (room .result) (a .xs .now) (a .ys .now) (a .radii .now) (p .0) (p .1) (p .2) (room .ensures), front-radius (a .n) (room .result) (a .xs .now) (a .ys .now) (a .radii .now) (p .0) (p .1) (p .2) (room .ensures)) all
+    let centre = either-cause 3 (bad (a .xs .now)) (bad (a .ys .now)) _ _ (rw sub-zero at (x .of-coordinates .ensures)) (rw sub-zero at (y .of-coordinates2 .ensures)) in
+    let floats = joined _ _ ((1, _) ∷ (3, _) ∷ []) ((4, _) ∷ []) (joined _ _ ((1, _) ∷ []) ((3, _) ∷ []) (count .of-count .ensures) centre) (rw sub-zero at (r .of-radii .ensures)) in
+    let all = joined _ _ ((1, _) ∷ (3, _) ∷ (4, _) ∷ []) ((14, _) ∷ []) floats (rw sub-zero at (c .of-inks .ensures)) in
+    rw (
+      front-centre (a .n) (room .result) (a .xs .now) (a .ys .now) (a .radii .now) (a .inks .now) (p .0) (p .1) (p .2) (p .3) (room .ensures),
+      front-radius (a .n) (room .result) (a .xs .now) (a .ys .now) (a .radii .now) (a .inks .now) (p .0) (p .1) (p .2) (p .3) (room .ensures),
+      front-inks (a .n) (room .result) (a .xs .now) (a .ys .now) (a .radii .now) (a .inks .now) (p .0) (p .1) (p .2) (p .3) (room .ensures),
+    ) all
 
 pub of-lists-spec : {M : Type 1} → statement M
 of-lists-spec =
@@ -83,4 +104,8 @@ of-lists-spec =
     part-of-radii-start
     part-of-radii-end
     of-radii-requires
+    sub-of-inks
+    part-of-inks-start
+    part-of-inks-end
+    of-inks-requires
     returns)

@@ -10,18 +10,19 @@ too-many-requires : tie.Need-too-many-requires
 too-many-requires c κs = search needs
 
 returns : tie.Need-returns
-returns c = let many = sym (c .before .too-many .ensures) ∙ c .if1 .taken in (rw many, rw many, rw many, rw many)
+returns c = let many = sym (c .before .too-many .ensures) ∙ c .if1 .taken in (rw many, rw many, rw many, rw many, rw many)
 
 split-front-requires : tie.Need-split-front-requires
 unfolding circleCap
-split-front-requires c κs = let s = c .before .before .before in (few _ (sym (s .before .too-many .ensures) ∙ s .if1 .left), search needs, search needs, search needs)
+split-front-requires c κs =
+    let s = c .before .before .before .before in (few _ (sym (s .before .too-many .ensures) ∙ s .if1 .left), search needs, search needs, search needs, search needs)
 
 returns-2 : tie.Need-returns-2
 returns-2 c =
-    let s = c .before .before .before .before in
+    let s = c .before .before .before .before .before in
     let all = sym (s .before .too-many .ensures) ∙ s .if1 .left in
     let e = c .split-front .ensures in
-    (rw all, rw all (e .0), rw all (e .1), rw all (e .2))
+    (rw all, rw all (e .0), rw all (e .1), rw all (e .2), rw all (e .3))
 
 pub split-array-spec : {M : Type 1} → statement M
 split-array-spec = tie.close (tie.spec too-many-requires returns split-front-requires returns-2)

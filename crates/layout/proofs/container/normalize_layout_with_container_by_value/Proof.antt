@@ -15,16 +15,18 @@ written-requires c κs = search needs
 
 recentred-requires : tie.Need-recentred-requires
 recentred-requires c κs =
-    let a = c .before .before .before .before .before .before .before .before .before .before .before .before .args in
-    let s = c .before .before .before .before .before .before .before .before .split-array .ensures in
-    rw (c .written .ensures) (contained-fits (a .n) (a .circles) (search needs) _ _ _ _ (s .1, s .2, s .3) (a .container) (c .before .before .before .before .settled-at .result) _ _ (c .before .before .before .before .settled-at .ensures))
+    let S = c .before .before .before .before .before .before .before .before .before .before .before .before .before .before in
+    let a = S .args in
+    let s = c .before .before .before .before .before .before .before .before .before .split-array .ensures in
+    rw (c .written .ensures) (contained-fits (a .n) (a .circles) (S .good .0 .1 .0 .1) _ _ _ _ _ _ (s .1, s .2, s .3, s .4) (a .container) (c .before .before .before .before .settled-at .result) _ _ (c .before .before .before .before .settled-at .ensures))
 
 returns : tie.Need-returns
 returns c =
-    let a = c .before .before .before .before .before .before .before .before .before .before .before .before .before .args in
-    let s = c .before .before .before .before .before .before .before .before .before .split-array .ensures in
+    let S = c .before .before .before .before .before .before .before .before .before .before .before .before .before .before .before in
+    let a = S .args in
+    let s = c .before .before .before .before .before .before .before .before .before .before .split-array .ensures in
     rw (c .recentred .ensures, c .before .written .ensures)
-    (contained-answer (a .n) (a .circles) (search needs) _ _ _ _ (s .1, s .2, s .3) (a .container) (c .before .before .before .before .before .settled-at .result) _ _ (c .before .before .before .before .before .settled-at .ensures))
+    (contained-answer (a .n) (a .circles) (S .good .0 .1 .0 .1) _ _ _ _ _ _ (s .1, s .2, s .3, s .4) (a .container) (c .before .before .before .before .before .settled-at .result) _ _ (c .before .before .before .before .before .settled-at .ensures))
 
 pub normalize-layout-with-container-by-value-spec : {M : Type 1} → statement M
 normalize-layout-with-container-by-value-spec =

@@ -19,8 +19,8 @@ number-of-requires c κs = search needs
 returns : tie.Need-returns
 returns c =
     let a = c .before .before .before .args in
-    let causes = joined _ _ ((1, _) ∷ (3, _) ∷ (4, _) ∷ []) ((3, _) ∷ (7, _) ∷ []) (c .before .before .of-circles .ensures) (c .before .of-container .ensures) in
-    c .number-of .ensures ∙ number-says _ _ causes ∙ container-number (a .n) (a .xs .now) (a .ys .now) (a .radii .now) (a .container)
+    let causes = joined _ _ ((1, _) ∷ (3, _) ∷ (4, _) ∷ (14, _) ∷ []) ((3, _) ∷ (7, _) ∷ []) (c .before .before .of-circles .ensures) (c .before .of-container .ensures) in
+    c .number-of .ensures ∙ number-says _ _ causes ∙ container-number (a .n) (a .xs .now) (a .ys .now) (a .radii .now) (a .inks .now) (a .container)
 
 pub number-spec : {M : Type 1} → statement M
 number-spec = tie.close (tie.spec of-circles-requires of-container-requires number-of-requires returns)

@@ -33,13 +33,13 @@ use denote.RattleType.{owns}
 use denote.Shadow.{pureI}
 use denote.Laws.{Is, shows}
 use denote.Memory.{partAt, pointee}
-use denote.Floats.{float-vals, float-tells, float-lawful}
+use denote.Floats.{float-vals, float-tells}
 use denote.Plain.{uint-makes, uint-vals, uint-tells}
 use denote.Builtin.{f64, usize}
 use denote.Ref.{RefT, ShrRef, ptr-vals, shr-tells}
 use denote.Slice.{sliceTy, sliceVal, MutSlice, heres, Room, slice-vals, mut-slice-tells, at-slice, codedHoleys}
 use denote.Lend.{Held}
-use denote.Index.{row, place-is, elem-out, elem-back, elem-put, opens-slice, closes-slice}
+use denote.Index.{row, elem-out, elem-back, elem-put, opens-slice, closes-slice}
 use denote.Signature.{plain}
 use denote.Steps.{owned, nothing}
 use denote.Struct.Laws as LL
@@ -59,7 +59,7 @@ use Rattle.scope.specs.Links.{nowhere}
 use Rattle.intake.specs.Limits.{maxCircles}
 use Rattle.intake.specs.Columns.{at as at-place}
 use Rattle.intake.proofs.Lending.{refTo}
-use Rattle.intake.proofs.NumberArrays.{IsF, F64s, numbersTy, looks-array, shuts-array}
+use Rattle.intake.proofs.NumberArrays.{float64, F64s, IsNumber, numbersTy, looks-array, shuts-array, element}
 use Rattle.layout.specs.Recentred.{recentred}
 use Rattle.layout.proofs.Recentred.{recentre, reached, reached-none, reached-length, reached-within, reached-next, reached-all}
 use Rattle.layout.proofs.lent.join.Key.{name as #join}
@@ -77,8 +77,8 @@ mach = LL.val T.the-type T′.the-laws
 abbrev Good : Circle → Type 0
 Good c = Is T.the-row c (mach c ∷ [])
 
-made : (x y : Float) (c : Circle) → IsF x → IsF y → Good c → Good (circleOf x y (c .radius))
-made x y c gx gy g = LL.owes T.the-type T′.the-laws (circleOf x y (c .radius)) (LL.owes P.the-type P′.the-laws (pointAt x y) (gx, (gy, tt)), LL.owed T.the-type T′.the-laws c _ g .1)
+made : (x y : Float) (c : Circle) → IsNumber float64 x → IsNumber float64 y → Good c → Good (circleOf x y (c .radius) (c .ink))
+made x y c gx gy g = LL.owes T.the-type T′.the-laws (circleOf x y (c .radius) (c .ink)) (LL.owes P.the-type P′.the-laws (pointAt x y) (gx, (gy, tt)), LL.owed T.the-type T′.the-laws c _ g .1)
 
 module _ {M : Type 1} (𝓤 : URA M) (H : Heap 𝓤) (A : Atoms 𝓤) (W : Given 𝓤 H A) (at-mem : Memory → SProp 𝓤) (run : Routine → Fun 𝓤) (κ₀ κ₁ κ₂ : Lft) (q₀ q₁ q₂ : Share)
     (b₀ o₀ b₁ o₁ b₂ o₂ : ℕ) (γ₀ γ₁ γ₂ : GName) (cs : List Circle) (xs ys : List Float) (count : ℕ)
@@ -151,7 +151,7 @@ module _ {M : Type 1} (𝓤 : URA M) (H : Heap 𝓤) (A : Atoms 𝓤) (W : Given
   slice₀ = sliceTy (tyRef (named 0) mut (pointee (T.the-row .written)))
 
   abbrev array : ℕ → Ty
-  array j = tyRef (named j) imm (numbersTy maxCircles)
+  array j = tyRef (named j) imm (numbersTy float64)
 
   module _ (𝓣 : Tables 𝓤 H) (q′ q″ : Share) (e₁ : length xs ≡ maxCircles) (e₂ : length ys ≡ maxCircles) (l₀ l₁ l₂ l₃ l₄ l₅ l₆ l₇ l₈ l₉ l₁₀ l₁₁ l₁₂ l₁₃ l₁₄ l₁₅ l₁₆ : ℕ) where
     abbrev C : Calls 𝓤 H
@@ -186,8 +186,7 @@ module _ {M : Type 1} (𝓤 : URA M) (H : Heap 𝓤) (A : Atoms 𝓤) (W : Given
         -- xs
         assigns ! (bin ! (load ! (from ! (stop !)) (look ! 34 refl)) (lit ! tt) (record { fits = eights })) (from ! (stop !)) (init ! 26 refl (tt, record { fits = eights })) $
         assigns ! (addr ! (from ! (hop ! (look ! 40 refl) (stop !)))) (from ! (stop !)) (init ! 24 refl (tt, tt)) $
-        assigns ! (bin ! (load ! (from ! (stop !)) (look ! 24 refl)) (load ! (from ! (stop !)) (look ! 26 refl)) tt) (from ! (stop !)) (init ! 22 refl (tt, tt)) $
-        rewrite ! 22 (λ (p : ℕ). ‵ (fat fullShare tyPtr l₁₁ 0 (vptr b₁ p))) (sym (place-is 8 o₁ (i .0))) refl $ move ! (1 ∷ []) $
+        assigns ! (element ! 8 (i .0) (load ! (from ! (stop !)) (look ! 24 refl)) (load ! (from ! (stop !)) (look ! 26 refl))) (from ! (stop !)) (init ! 22 refl (tt, tt)) $ move ! (1 ∷ []) $
         elem-out ! f64 (Is f64) (shows 𝓤 H A f64) (float-vals binary64) (float-tells binary64) q′ xs (i .0) nan b₁ o₁ in-xs (λ gx.
         assigns ! (of-opd ! (load ! (from ! (hop ! (look ! 24 refl) (stop !))) (look ! 0 refl))) (from ! (stop !)) (init ! 22 refl (number gx)) $
         elem-back ! f64 q′ xs (i .0) nan (vfloat binary64 (at-place xs (i .0)) ∷ []) b₁ o₁ in-xs $
@@ -195,21 +194,18 @@ module _ {M : Type 1} (𝓤 : URA M) (H : Heap 𝓤) (A : Atoms 𝓤) (W : Given
         -- ys
         assigns ! (bin ! (load ! (from ! (stop !)) (look ! 34 refl)) (lit ! tt) (record { fits = eights })) (from ! (stop !)) (store ! 26 refl (tt, record { fits = eights })) $
         assigns ! (addr ! (from ! (hop ! (look ! 38 refl) (stop !)))) (from ! (stop !)) (init ! 18 refl (tt, tt)) $
-        assigns ! (bin ! (load ! (from ! (stop !)) (look ! 18 refl)) (load ! (from ! (stop !)) (look ! 26 refl)) tt) (from ! (stop !)) (init ! 16 refl (tt, tt)) $
-        rewrite ! 16 (λ (p : ℕ). ‵ (fat fullShare tyPtr l₁₄ 0 (vptr b₂ p))) (sym (place-is 8 o₂ (i .0))) refl $ move ! (2 ∷ []) $
+        assigns ! (element ! 8 (i .0) (load ! (from ! (stop !)) (look ! 18 refl)) (load ! (from ! (stop !)) (look ! 26 refl))) (from ! (stop !)) (init ! 16 refl (tt, tt)) $ move ! (2 ∷ []) $
         elem-out ! f64 (Is f64) (shows 𝓤 H A f64) (float-vals binary64) (float-tells binary64) q″ ys (i .0) nan b₂ o₂ in-ys (λ gy.
         assigns ! (of-opd ! (load ! (from ! (hop ! (look ! 18 refl) (stop !))) (look ! 0 refl))) (from ! (stop !)) (store ! 22 refl (number gy)) $
         elem-back ! f64 q″ ys (i .0) nan (vfloat binary64 (at-place ys (i .0)) ∷ []) b₂ o₂ in-ys $
         assigns ! (of-opd ! (load ! (from ! (stop !)) (look ! 20 refl))) (from ! (stop !)) (init ! 30 refl (number gy)) $
         -- the circle
         assigns ! (bin ! (load ! (from ! (stop !)) (look ! 34 refl)) (lit ! tt) (record { fits = bytes })) (from ! (stop !)) (store ! 26 refl (tt, record { fits = bytes })) $
-        assigns ! (bin ! (load ! (from ! (fld ! refl (stop !))) (look-in ! 42 (sub ! 0 refl (whole !)))) (load ! (from ! (stop !)) (look ! 26 refl)) tt) (from ! (stop !)) (init ! 14 refl (tt, tt)) $
-        rewrite ! 14 (λ (p : ℕ). ‵ (fat fullShare tyPtr l₁₅ 0 (vptr b₀ p))) (sym (place-is 24 o₀ (i .0))) refl $ move ! (2 ∷ []) $
+        assigns ! (element ! 32 (i .0) (load ! (from ! (fld ! refl (stop !))) (look-in ! 42 (sub ! 0 refl (whole !)))) (load ! (from ! (stop !)) (look ! 26 refl))) (from ! (stop !)) (init ! 14 refl (tt, tt)) $ move ! (2 ∷ []) $
         elem-out ! T.the-row (Is T.the-row) (shows 𝓤 H A T.the-row) (LL.vals T.the-type T′.the-laws) (LL.tells T.the-type T′.the-laws) fullShare (cur (i .0)) (i .0) nowhere b₀ o₀ within (λ g.
         assigns ! (of-opd ! (load ! (from ! (stop !)) (look ! 34 refl))) (from ! (hop ! (look ! 16 refl) (fld ! refl (fld ! refl (stop !))))) (store-in ! 0 (sub ! 0 refl (sub ! 0 refl (whole !))) (number gx)) $
         assigns ! (bin ! (load ! (from ! (stop !)) (look ! 36 refl)) (lit ! tt) (record { fits = bytes })) (from ! (stop !)) (store ! 28 refl (tt, record { fits = bytes })) $
-        assigns ! (bin ! (load ! (from ! (fld ! refl (stop !))) (look-in ! 44 (sub ! 0 refl (whole !)))) (load ! (from ! (stop !)) (look ! 28 refl)) tt) (from ! (stop !)) (init ! 14 refl (tt, tt)) $
-        rewrite ! 14 (λ (p : ℕ). ‵ (fat fullShare tyPtr l₁₆ 0 (vptr b₀ p))) (sym (place-is 24 o₀ (i .0))) refl $
+        assigns ! (element ! 32 (i .0) (load ! (from ! (fld ! refl (stop !))) (look-in ! 44 (sub ! 0 refl (whole !)))) (load ! (from ! (stop !)) (look ! 28 refl))) (from ! (stop !)) (init ! 14 refl (tt, tt)) $
         assigns ! (of-opd ! (load ! (from ! (stop !)) (look ! 32 refl))) (from ! (hop ! (look ! 14 refl) (fld ! refl (fld ! refl (stop !))))) (store-in ! 0 (sub ! 1 refl (sub ! 0 refl (whole !))) (number gy)) $
         move ! (1 ∷ []) $ drop ! $ owned ! T.the-row (Is T.the-row) ((LL.makes T.the-type T′.the-plain) 𝓤 H A) (new (i .0)) _ (made (at-place xs (i .0)) (at-place ys (i .0)) (getD (cur (i .0)) (i .0) nowhere) gx gy g) $
         move ! (1 ∷ 0 ∷ 2 ∷ []) $ elem-put ! T.the-row fullShare (cur (i .0)) (i .0) (new (i .0)) (mach (new (i .0)) ∷ []) b₀ o₀ within $
@@ -218,8 +214,8 @@ module _ {M : Type 1} (𝓤 : URA M) (H : Heap 𝓤) (A : Atoms 𝓤) (W : Given
         forget ! 32 refl $ forget ! 30 refl $ forget ! 28 refl $ forget ! 26 refl $ forget ! 24 refl $ forget ! 22 refl $ forget ! 20 refl $ forget ! 18 refl $ forget ! 16 refl $ forget ! 14 refl $ forget ! 12 refl $
         again ! Nearer At i (i .0 + 1, add-one-le l) (add-one-dec count (i .0) l))))
       where
-        number : {z : Float} → IsF z → Holds (hasTy (tyFloat binary64) (vfloat binary64 z)) × WT (vfloat binary64 z)
-        number {z} g = float-lawful 𝓤 H A W binary64 .typed z _ g .0
+        number : {z : Float} → IsNumber float64 z → Holds (hasTy (tyFloat binary64) (vfloat binary64 z)) × WT (vfloat binary64 z)
+        number {z} g = float64 .typed z g
 
         inside-run : i .0 < n
         inside-run = omega (arith, l, fits .0)
@@ -233,7 +229,7 @@ module _ {M : Type 1} (𝓤 : URA M) (H : Heap 𝓤) (A : Atoms 𝓤) (W : Given
         within : i .0 < length (cur (i .0))
         within = reached-within xs ys cs (i .0) inside-run
 
-        bytes : i .0 * 24 < 2 ^ 64
+        bytes : i .0 * 32 < 2 ^ 64
         bytes = omega (arith, g₀ .1, inside-run)
 
         eights : i .0 * 8 < 2 ^ 64
@@ -248,7 +244,7 @@ module _ {M : Type 1} (𝓤 : URA M) (H : Heap 𝓤) (A : Atoms 𝓤) (W : Given
     ends i e =
         assigns ! (bin ! (load ! (from ! (stop !)) (look ! 34 refl)) (load ! (from ! (stop !)) (look ! 36 refl)) tt) (from ! (stop !)) (init ! 28 refl (tt, tt)) $
         rewrite ! 28 (λ (t : Bool). ‵ (fat fullShare tyBool l₈ 0 (vbool t))) (le-ltb (i .0) count (omega (arith, e))) refl $ leaves-loop ! (load ! (from ! (stop !)) (look ! 28 refl)) $ exec ! C Λ En body.t-3 (atRet En Post) $
-        move ! (1 ∷ 6 ∷ []) $ shuts-array ! tt maxCircles q′ xs e₁ b₁ o₁ $ move ! (2 ∷ 8 ∷ []) $ shuts-array ! tt maxCircles q″ ys e₂ b₂ o₂ $
+        move ! (1 ∷ 6 ∷ []) $ shuts-array ! tt float64 q′ xs e₁ b₁ o₁ $ move ! (2 ∷ 8 ∷ []) $ shuts-array ! tt float64 q″ ys e₂ b₂ o₂ $
         move ! (2 ∷ 3 ∷ 4 ∷ 5 ∷ []) $ closes-slice ! tt T.the-row cs (cur (i .0)) (reached-length xs ys cs (i .0) (inside i)) b₀ o₀ $
         assigns ! (of-opd ! (unit-lit !)) (from ! (stop !)) (init ! 41 refl (tt, tt)) $
         returns ! (look ! 41 refl) $ forget ! 41 refl $ forget ! 39 refl $ forget ! 37 refl $ forget ! 35 refl $ forget ! 33 refl $ forget ! 31 refl $ forget ! 25 refl $
@@ -274,8 +270,8 @@ module _ {M : Type 1} (𝓤 : URA M) (H : Heap 𝓤) (A : Atoms 𝓤) (W : Given
       assigns ! (of-opd ! (lit ! tt)) (from ! (stop !)) (init ! 22 refl (tt, record { fits = lit< tt })) $
       -- the run is opened, and the arrays are looked into
       move ! (35 ∷ []) $ fsplit ! $ fsplit ! $ move ! (1 ∷ []) $ fsplit ! $ move ! (38 ∷ []) $ split ! $ move ! (4 ∷ []) $ drop ! $ move ! (2 ∷ 3 ∷ 0 ∷ []) $ opens-slice ! tt T.the-row cs b₀ o₀ $ rewrite ! 0 (λ (zs : List Circle). ‵ (row T.the-row fullShare zs b₀ o₀)) (reached-none xs ys cs) refl $
-      move ! (5 ∷ []) $ fsplit ! $ fsplit3 ! $ drop ! $ move ! (7 ∷ []) $ split ! $ move ! (3 ∷ 0 ∷ []) $ looks-array ! tt maxCircles xs b₁ o₁ (λ q′ e₁.
-      move ! (5 ∷ []) $ fsplit ! $ fsplit3 ! $ drop ! $ move ! (6 ∷ []) $ split ! $ move ! (3 ∷ 0 ∷ []) $ looks-array ! tt maxCircles ys b₂ o₂ (λ q″ e₂.
+      move ! (5 ∷ []) $ fsplit ! $ fsplit3 ! $ drop ! $ move ! (7 ∷ []) $ split ! $ move ! (3 ∷ 0 ∷ []) $ looks-array ! tt float64 xs b₁ o₁ (λ q′ e₁.
+      move ! (5 ∷ []) $ fsplit ! $ fsplit3 ! $ drop ! $ move ! (6 ∷ []) $ split ! $ move ! (3 ∷ 0 ∷ []) $ looks-array ! tt float64 ys b₂ o₂ (λ q″ e₂.
       keep ! (10 ∷ 6 ∷ 0 ∷ 11 ∷ 12 ∷ 13 ∷ 7 ∷ 8 ∷ 9 ∷ 1 ∷ 2 ∷ 4 ∷ 14 ∷ 15 ∷ 16 ∷ 17 ∷ 18 ∷ 19 ∷ 20 ∷ 21 ∷ 22 ∷ 23 ∷ 24 ∷ 25 ∷ 26 ∷ 27 ∷ 28 ∷ 29 ∷ 30 ∷ 31 ∷ 32 ∷ 33 ∷ 34 ∷ 35 ∷ 36 ∷ 37 ∷ 38 ∷ 39 ∷ 40 ∷ 41 ∷ 42 ∷ 43 ∷ 44 ∷ 45 ∷ 46 ∷ 47 ∷ []) $
       starts 𝓣 q′ q″ e₁ e₂ l₀ l₁ l₂ l₃ l₄ l₅ l₆ l₇ l₈ l₉ l₁₀ l₁₁ l₁₂ l₁₃ l₁₄ l₁₅ l₁₆)))))))))))))))))))
 

@@ -4,7 +4,7 @@ use native.Mathlib.Omega.{arith}
 use mathlib.Core.Path.{sym, _∙_}
 use borrow.Author.Needs.{needs}
 use Rattle.layout.proofs.PackedClusters.{part-length}
-use Rattle.layout.proofs.FrontLayouts.{front-doubles, laid-accepted}
+use Rattle.layout.proofs.FrontLayouts.{bare-doubles, laid-accepted}
 use Rattle.layout.proofs.normalize.in_front.Statement.{statement}
 use Rattle.layout.proofs.normalize.in_front.Tie as tie
 
@@ -41,7 +41,7 @@ arranged-requires c κs =
     let p = S .pre in
     let a = S .args in
     let long = part-length (a .n) _ (a .xs .now) (p .1) (p .0) in
-    let doubles = front-doubles (a .n) (a .xs .now) (a .ys .now) (a .radii .now) (a .factor) (c .before .before .before .before .before .before .before .slice-known .given) (c .before .before .before .before .before .before .slice-known2 .given) (c .before .before .before .before .before .shared-slice-known .given) (S .good .1 .1 .1 .1 .0 .1) in
+    let doubles = bare-doubles (a .n) (a .xs .now) (a .ys .now) (a .radii .now) (a .factor) (c .before .before .before .before .before .before .before .slice-known .given) (c .before .before .before .before .before .before .slice-known2 .given) (c .before .before .before .before .before .shared-slice-known .given) (S .good .1 .1 .1 .1 .0 .1) in
     (omega (arith, long, p .0), part-length (a .n) _ (a .ys .now) (p .2) (p .0) ∙ sym long, part-length (a .n) _ (a .radii .now) (p .3) (p .0) ∙ sym long, rw sub-zero (p .4), rw sub-zero doubles)
 
 same-length : tie.Need-same-length
@@ -56,9 +56,9 @@ returns c =
     let p = S .pre in
     let a = S .args in
     let r = c .before .before .before .before .arranged in
-    let doubles = front-doubles (a .n) (a .xs .now) (a .ys .now) (a .radii .now) (a .factor) (c .before .before .before .before .before .before .before .before .before .before .before .before .slice-known .given) (c .before .before .before .before .before .before .before .before .before .before .before .slice-known2 .given) (c .before .before .before .before .before .before .before .before .before .before .shared-slice-known .given) (S .good .1 .1 .1 .1 .0 .1) in
+    let doubles = bare-doubles (a .n) (a .xs .now) (a .ys .now) (a .radii .now) (a .factor) (c .before .before .before .before .before .before .before .before .before .before .before .before .slice-known .given) (c .before .before .before .before .before .before .before .before .before .before .before .slice-known2 .given) (c .before .before .before .before .before .before .before .before .before .before .shared-slice-known .given) (S .good .1 .1 .1 .1 .0 .1) in
     let long = part-length (a .n) _ (a .xs .now) (p .1) (p .0) in
-    laid-accepted _ _ _ _ _ _ _ (p .0) (p .4) doubles _ _ _ (omega (arith, long, r .kept)) (omega (arith, part-length (a .n) _ (a .ys .now) (p .2) (p .0), r .kept)) (rw sub-zero at (r .ensures .0)) (rw sub-zero at (r .ensures .1))
+    λ inks h. laid-accepted _ _ _ _ inks _ _ _ (p .0) h doubles _ _ _ (omega (arith, long, r .kept)) (omega (arith, part-length (a .n) _ (a .ys .now) (p .2) (p .0), r .kept)) (rw sub-zero at (r .ensures .0)) (rw sub-zero at (r .ensures .1))
 
 pub in-front-spec : {M : Type 1} → statement M
 in-front-spec =

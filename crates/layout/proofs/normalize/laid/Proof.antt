@@ -3,7 +3,7 @@ use mathlib.Core.Path.{sym, _∙_}
 use mathlib.Core.List.{[], _∷_}
 use borrow.Author.Needs.{needs}
 use Rattle.intake.proofs.CauseWords.{joined, number-says}
-use Rattle.layout.proofs.FrontLayouts.{layout-number, number-none, laid-refused}
+use Rattle.layout.proofs.FrontLayouts.{layout-number, number-none, bare-accepted, laid-refused}
 use Rattle.layout.proofs.normalize.laid.Statement.{statement}
 use Rattle.layout.proofs.normalize.laid.Tie as tie
 
@@ -25,20 +25,25 @@ refused-requires c κs = search needs
 returns : tie.Need-returns
 returns c =
     let a = c .before .before .before .before .before .before .before .before .before .before .args in
-    let all = joined _ _ ((1, _) ∷ (3, _) ∷ (4, _) ∷ (13, _) ∷ (2, _) ∷ (5, _) ∷ []) ((6, _) ∷ [])
-    (joined _ _ ((1, _) ∷ (3, _) ∷ (4, _) ∷ []) ((13, _) ∷ (2, _) ∷ (5, _) ∷ []) (c .before .before .before .before .before .of-circles .ensures) (c .before .before .before .before .of-regions .ensures)) (c .before .before .before .of-factor .ensures) in
-    laid-refused (a .n) (a .xs .now) (a .ys .now) (a .radii .now) (a .factor) (a .masks .now) (a .areas .now) (c .refused .result) _ (c .before .before .number-of .ensures ∙ number-says _ _ all ∙ layout-number (a .n) (a .xs .now) (a .ys .now) (a .radii .now) (a .factor) (a .masks .now) (a .areas .now)) (c .before .if1 .taken) (c .refused .ensures)
+    let all = joined _ _ ((1, _) ∷ (3, _) ∷ (4, _) ∷ (14, _) ∷ (13, _) ∷ (2, _) ∷ (5, _) ∷ []) ((6, _) ∷ [])
+    (joined _ _ ((1, _) ∷ (3, _) ∷ (4, _) ∷ (14, _) ∷ []) ((13, _) ∷ (2, _) ∷ (5, _) ∷ []) (c .before .before .before .before .before .of-circles .ensures) (c .before .before .before .before .of-regions .ensures)) (c .before .before .before .of-factor .ensures) in
+    laid-refused (a .n) (a .xs .now) (a .ys .now) (a .radii .now) (a .inks .now) (a .factor) (a .masks .now) (a .areas .now) (c .refused .result) _ (c .before .before .number-of .ensures ∙ number-says _ _ all ∙ layout-number (a .n) (a .xs .now) (a .ys .now) (a .radii .now) (a .inks .now) (a .factor) (a .masks .now) (a .areas .now)) (c .before .if1 .taken) (c .refused .ensures)
 
 in-front-requires : tie.Need-in-front-requires
 in-front-requires c κs =
     let a = c .before .before .before .before .before .before .before .before .before .before .before .before .args in
-    let all = joined _ _ ((1, _) ∷ (3, _) ∷ (4, _) ∷ (13, _) ∷ (2, _) ∷ (5, _) ∷ []) ((6, _) ∷ [])
-    (joined _ _ ((1, _) ∷ (3, _) ∷ (4, _) ∷ []) ((13, _) ∷ (2, _) ∷ (5, _) ∷ []) (c .before .before .before .before .before .before .before .of-circles .ensures) (c .before .before .before .before .before .before .of-regions .ensures)) (c .before .before .before .before .before .of-factor .ensures) in
-    let none = number-none (a .n) (a .xs .now) (a .ys .now) (a .radii .now) (a .factor) (a .masks .now) (a .areas .now) (sym (c .before .before .before .before .number-of .ensures ∙ number-says _ _ all ∙ layout-number (a .n) (a .xs .now) (a .ys .now) (a .radii .now) (a .factor) (a .masks .now) (a .areas .now)) ∙ c .before .before .before .if1 .left) in
-    (none .0, search needs, search needs, search needs, none .1)
+    let all = joined _ _ ((1, _) ∷ (3, _) ∷ (4, _) ∷ (14, _) ∷ (13, _) ∷ (2, _) ∷ (5, _) ∷ []) ((6, _) ∷ [])
+    (joined _ _ ((1, _) ∷ (3, _) ∷ (4, _) ∷ (14, _) ∷ []) ((13, _) ∷ (2, _) ∷ (5, _) ∷ []) (c .before .before .before .before .before .before .before .of-circles .ensures) (c .before .before .before .before .before .before .of-regions .ensures)) (c .before .before .before .before .before .of-factor .ensures) in
+    let none = number-none (a .n) (a .xs .now) (a .ys .now) (a .radii .now) (a .inks .now) (a .factor) (a .masks .now) (a .areas .now) (sym (c .before .before .before .before .number-of .ensures ∙ number-says _ _ all ∙ layout-number (a .n) (a .xs .now) (a .ys .now) (a .radii .now) (a .inks .now) (a .factor) (a .masks .now) (a .areas .now)) ∙ c .before .before .before .if1 .left) in
+    (none .0, search needs, search needs, search needs, bare-accepted (a .n) (a .xs .now) (a .ys .now) (a .radii .now) (a .inks .now) (a .factor) (a .masks .now) (a .areas .now) (none .1))
 
 returns-2 : tie.Need-returns-2
-returns-2 c = search needs
+returns-2 c =
+    let a = c .before .before .before .before .before .before .before .before .before .before .before .before .before .args in
+    let all = joined _ _ ((1, _) ∷ (3, _) ∷ (4, _) ∷ (14, _) ∷ (13, _) ∷ (2, _) ∷ (5, _) ∷ []) ((6, _) ∷ [])
+    (joined _ _ ((1, _) ∷ (3, _) ∷ (4, _) ∷ (14, _) ∷ []) ((13, _) ∷ (2, _) ∷ (5, _) ∷ []) (c .before .before .before .before .before .before .before .before .of-circles .ensures) (c .before .before .before .before .before .before .before .of-regions .ensures)) (c .before .before .before .before .before .before .of-factor .ensures) in
+    let none = number-none (a .n) (a .xs .now) (a .ys .now) (a .radii .now) (a .inks .now) (a .factor) (a .masks .now) (a .areas .now) (sym (c .before .before .before .before .before .number-of .ensures ∙ number-says _ _ all ∙ layout-number (a .n) (a .xs .now) (a .ys .now) (a .radii .now) (a .inks .now) (a .factor) (a .masks .now) (a .areas .now)) ∙ c .before .before .before .before .if1 .left) in
+    c .in-front .ensures (a .inks .now) (none .1)
 
 pub laid-spec : {M : Type 1} → statement M
 laid-spec =

@@ -21,7 +21,7 @@ use contract.Monad.{Fun, fact}
 use contract.Running.{givenOf, tables, tablesOf}
 use types.Kit.{Given, Item, ‵, raw, some, later, _⊛_, ⋆, _$_, _∵_, !, qed, by, move, keep, drop, group, use1, split, join, pick, rewrite, fsplit, fjoin, suffices, frame, await, done}
 use types.Part.{agg, rep, whole, sub, look-in}
-use types.Run.{look, init, forget, stop, hop, fld, from, load, addr, and-then, no-more, float-lit, of-opd, assigns, land, returns, enter, alloc1, alloc0, params1, pass1, pass0, free1, free0}
+use types.Run.{look, init, forget, stop, hop, fld, from, load, addr, and-then, no-more, lit, float-lit, of-opd, assigns, land, returns, enter, alloc1, alloc0, params1, pass1, pass0, free1, free0}
 use sound.WpLaws.{fmOf, WpFn-mono}
 use denote.RattleType.{owns}
 use denote.Shadow.{pureI}
@@ -47,13 +47,14 @@ use denote.Triple.Walked.{says, Stays, stay-slice, stay-none, stay-none-slice, w
 use denote.Exit.{yes}
 use Rattle.shapes.specs.declared.circle.Circle.{Circle}
 use Rattle.shapes.proofs.circle.Circle as T
+use Rattle.scope.specs.Refusals.{inks}
 use Rattle.intake.specs.Limits.{maxCircles}
 use Rattle.intake.specs.Columns.{xsOf, ysOf, radiiOf}
 use Rattle.layout.specs.Recentred.{recentred, writtenOf}
 use Rattle.layout.specs.Laid.{Laid, Lays}
 use Rattle.layout.specs.declared.normalize.Result.{Result}
 use Rattle.intake.proofs.Lending.{refTo, lent-to-write, written-back, lent-to-read, read-back}
-use Rattle.intake.proofs.NumberArrays.{F64s, zeroFloat, blanks, blank-is, numbersTy, same-typed, same-lies, array-room}
+use Rattle.intake.proofs.NumberArrays.{float64, uint16, F64s, U16s, numbersTy, noughts, noughts-typed, noughts-lie, numbers-room}
 use Rattle.intake.proofs.Splitting.{splitOf}
 use Rattle.intake.proofs.SplitCall.{SplitContract, splits}
 use Rattle.layout.proofs.JoinCall.{JoinContract, WrittenContract, joins, counts}
@@ -96,7 +97,10 @@ small-refusal r is = LL.owed R.the-type R′.the-laws r _ (is-mach r _ is) .0 .1
 
 -- the arrays as they are made
 abbrev zeros : List Float
-zeros = blanks maxCircles
+zeros = noughts float64
+
+abbrev noInks : List ℕ
+noInks = noughts uint16
 
 module _ {M : Type 1} (𝓤 : URA M) (H : Heap 𝓤) (A : Atoms 𝓤) (at-mem : Memory → SProp 𝓤) (run : Routine → Fun 𝓤) where
   abbrev Core : Contract 𝓤
@@ -128,13 +132,13 @@ module _ {M : Type 1} (𝓤 : URA M) (H : Heap 𝓤) (A : Atoms 𝓤) (W : Given
 
   -- what the core says of its answer and of the last lists
   abbrev Solved : Result → List Float → List Float → Type 0
-  Solved r xs′ ys′ = Laid (splitOf xsOf ys zeros) (splitOf ysOf ys zeros) (splitOf radiiOf ys zeros) n factor masks areas r xs′ ys′
+  Solved r xs′ ys′ = Laid (splitOf xsOf ys zeros) (splitOf ysOf ys zeros) (splitOf radiiOf ys zeros) (splitOf inks ys noInks) n factor masks areas r xs′ ys′
 
   fits-of : (r : Result) (xs′ ys′ : List Float) → Solved r xs′ ys′ → (writtenOf (r .refusal) n ≤ n) × (writtenOf (r .refusal) n ≤ maxCircles)
-  fits-of r xs′ ys′ e = laid-fits ys zeros factor masks areas r xs′ ys′ e
+  fits-of r xs′ ys′ e = laid-fits ys zeros noInks factor masks areas r xs′ ys′ e
 
   lays-of : (r : Result) (xs′ ys′ : List Float) (zs : List Circle) → Solved r xs′ ys′ → zs ≡ recentred (writtenOf (r .refusal) n) xs′ ys′ ys → Lays ys factor masks areas r zs
-  lays-of r xs′ ys′ zs e said = subst (Lays ys factor masks areas r) (sym said) (laid-lays ys zeros factor masks areas r xs′ ys′ e)
+  lays-of r xs′ ys′ zs e said = subst (Lays ys factor masks areas r) (sym said) (laid-lays ys zeros noInks factor masks areas r xs′ ys′ e)
 
   abbrev Post : Val → SProp 𝓤
   Post = walkOf 𝓤 H A thin.ended stayed (thin.clauses 𝓤 H A at-mem run) .post (((κ, (κm, (κa, tt))), (q, (qm, (qa, tt))), tt, (refTo b o γ ys, (factor, (xm, (xa, tt)))), at), tt)
@@ -165,26 +169,27 @@ module _ {M : Type 1} (𝓤 : URA M) (H : Heap 𝓤) (A : Atoms 𝓤) (W : Given
       move ! (0 ∷ 2 ∷ []) $ fjoin ! $ move ! (2 ∷ 0 ∷ []) $ fjoin ! $ move ! (3 ∷ 0 ∷ []) $ fjoin ! $ frame ! $
       nothing ! $ move ! (1 ∷ 0 ∷ []) $ fjoin ! $ move ! (1 ∷ 0 ∷ []) $ fjoin ! $ move ! (1 ∷ 0 ∷ []) $ fjoin ! $ done !
 
-  -- what the core asks, of the arrays at three places, each lent for a lifetime under a name
-  module _ (b₀ b₁ b₂ : ℕ) (ν₀ ν₁ ν₂ : ℕ) (δ₀ δ₁ δ₂ : GName) where
-    abbrev core-lfts : Lfts 5
-    core-lfts = (ν₀ ∷ [], (ν₁ ∷ [], (ν₂ ∷ [], (κm, (κa, tt)))))
+  -- what the core asks, of the arrays at their places, each lent for a lifetime under a name
+  module _ (b₀ b₁ b₂ b₃ : ℕ) (ν₀ ν₁ ν₂ ν₃ : ℕ) (δ₀ δ₁ δ₂ δ₃ : GName) where
+    abbrev core-lfts : Lfts 6
+    core-lfts = (ν₀ ∷ [], (ν₁ ∷ [], (ν₂ ∷ [], (ν₃ ∷ [], (κm, (κa, tt))))))
 
     abbrev core-args : Args core.signature core-lfts
-    core-args = (refTo b₀ 0 δ₀ (splitOf xsOf ys zeros), (refTo b₁ 0 δ₁ (splitOf ysOf ys zeros), (refTo b₂ 0 δ₂ (splitOf radiiOf ys zeros), (n, (factor, (xm, (xa, tt)))))))
+    core-args = (refTo b₀ 0 δ₀ (splitOf xsOf ys zeros), (refTo b₁ 0 δ₁ (splitOf ysOf ys zeros), (refTo b₂ 0 δ₂ (splitOf radiiOf ys zeros), (refTo b₃ 0 δ₃ (splitOf inks ys noInks), (n, (factor, (xm, (xa, tt))))))))
 
     abbrev core-toks : Item 𝓤
-    core-toks = ‵ (flft (ν₀ ∷ []) fullShare) ⊛ ‵ (flft (ν₁ ∷ []) fullShare) ⊛ ‵ (flft (ν₂ ∷ []) fullShare) ⊛ toks
+    core-toks = ‵ (flft (ν₀ ∷ []) fullShare) ⊛ ‵ (flft (ν₁ ∷ []) fullShare) ⊛ ‵ (flft (ν₂ ∷ []) fullShare) ⊛ ‵ (flft (ν₃ ∷ []) fullShare) ⊛ toks
 
     abbrev to-core : Core 𝓤 H A at-mem run .Ghost
-    to-core = ((core-lfts, (fullShare, (fullShare, (fullShare, (qm, (qa, tt))))), tt, core-args, (vptr b₀ 0 ∷ [], (vptr b₁ 0 ∷ [], (vptr b₂ 0 ∷ [], (vint w64 n ∷ [], (vfloat binary64 factor ∷ [], (sm ∷ [], (sa ∷ [], tt)))))))), tt)
+    to-core = ((core-lfts, (fullShare, (fullShare, (fullShare, (fullShare, (qm, (qa, tt)))))), tt, core-args, (vptr b₀ 0 ∷ [], (vptr b₁ 0 ∷ [], (vptr b₂ 0 ∷ [], (vptr b₃ 0 ∷ [], (vint w64 n ∷ [], (vfloat binary64 factor ∷ [], (sm ∷ [], (sa ∷ [], tt))))))))), tt)
 
     abbrev Handed : List (Item 𝓤)
     Handed = ‵ (MutRef (named 0) (ν₀ ∷ []) F64s .own (refTo b₀ 0 δ₀ (splitOf xsOf ys zeros)) (vptr b₀ 0 ∷ [])) ∷ ‵ (flft (ν₀ ∷ []) fullShare) ∷ ‵ (MutRef (named 1) (ν₁ ∷ []) F64s .own (refTo b₁ 0 δ₁ (splitOf ysOf ys zeros)) (vptr b₁ 0 ∷ [])) ∷ ‵ (flft (ν₁ ∷ []) fullShare)
-        ∷ ‵ (ShrRef (named 2) (ν₂ ∷ []) F64s .own (refTo b₂ 0 δ₂ (splitOf radiiOf ys zeros)) (vptr b₂ 0 ∷ [])) ∷ ‵ (flft (ν₂ ∷ []) fullShare) ∷ toks ∷ ‵ Rest ∷ []
+        ∷ ‵ (ShrRef (named 2) (ν₂ ∷ []) F64s .own (refTo b₂ 0 δ₂ (splitOf radiiOf ys zeros)) (vptr b₂ 0 ∷ [])) ∷ ‵ (flft (ν₂ ∷ []) fullShare)
+        ∷ ‵ (ShrRef (named 3) (ν₃ ∷ []) U16s .own (refTo b₃ 0 δ₃ (splitOf inks ys noInks)) (vptr b₃ 0 ∷ [])) ∷ ‵ (flft (ν₃ ∷ []) fullShare) ∷ toks ∷ ‵ Rest ∷ []
 
     goes-core : ent 𝓤 (⋆ 𝓤 H A Handed) (Core 𝓤 H A at-mem run .pre to-core)
-    goes-core = qed W Handed ∵ owned ! usize (Is usize) (uint-makes 𝓤 H A W w64) n _ (refl, gn .0) $ move ! (0 ∷ 8 ∷ []) $ fjoin ! $ move ! (5 ∷ 0 ∷ []) $ fjoin ! $ move ! (3 ∷ 0 ∷ []) $ fjoin ! $ move ! (1 ∷ 0 ∷ []) $ fjoin ! $ move ! (3 ∷ 4 ∷ []) $ join ! $ move ! (3 ∷ 0 ∷ []) $ join ! $ move ! (2 ∷ 0 ∷ []) $ join ! $ join ! $ frame ! $ done !
+    goes-core = qed W Handed ∵ owned ! usize (Is usize) (uint-makes 𝓤 H A W w64) n _ (refl, gn .0) $ move ! (0 ∷ 10 ∷ []) $ fjoin ! $ move ! (7 ∷ 0 ∷ []) $ fjoin ! $ move ! (5 ∷ 0 ∷ []) $ fjoin ! $ move ! (3 ∷ 0 ∷ []) $ fjoin ! $ move ! (1 ∷ 0 ∷ []) $ fjoin ! $ move ! (4 ∷ 5 ∷ []) $ join ! $ move ! (4 ∷ 0 ∷ []) $ join ! $ move ! (3 ∷ 0 ∷ []) $ join ! $ move ! (2 ∷ 0 ∷ []) $ join ! $ join ! $ frame ! $ done !
 
   exits : (zs : List Circle) → length zs ≡ n → (r : Result) → Lays ys factor masks areas r zs → Is R.the-row r (mach r ∷ [])
       → ent 𝓤 (⋆ 𝓤 H A (‵ (fobs γ (codedHoleys T.the-row .code (heres T.the-row zs))) ∷ ‵ (fbor κ (Held T.the-row (length zs) b o γ)) ∷ ‵ (flft κ q) ∷ toks ∷ ‵ Rest ∷ [])) (Post (mach r))
@@ -203,56 +208,59 @@ module _ {M : Type 1} (𝓤 : URA M) (H : Heap 𝓤) (A : Atoms 𝓤) (W : Given
     walk : ent 𝓤 (onEntry 𝓤 H A thin.signature (κ, (κm, (κa, tt))) (q, (qm, (qa, tt))) (refTo b o γ ys, (factor, (xm, (xa, tt)))) at) (WpFn 𝓤 H (𝓣 .C) (𝓣 .Λ) code.function (s ∷ vfloat binary64 factor ∷ sm ∷ sa ∷ []) Post)
     walk =
         qed W ((‵ (flft κ q) ⊛ toks) ∷ ‵ (fsep (MutSlice (named 0) κ T.the-row .own (refTo b o γ ys) (s ∷ [])) Rest) ∷ []) ∵ enter ! (𝓣 .C) (𝓣 .Λ) code.function (s ∷ vfloat binary64 factor ∷ sm ∷ sa ∷ []) _ $
-        alloc1 ! (λ l₀. alloc1 ! (λ l₁. alloc1 ! (λ l₂. alloc1 ! (λ l₃. alloc1 ! (λ l₄. alloc1 ! (λ l₅. alloc1 ! (λ l₆. alloc1 ! (λ l₇. alloc1 ! (λ l₈. alloc1 ! (λ l₉. alloc1 ! (λ l₁₀. alloc1 ! (λ l₁₁. alloc1 ! (λ l₁₂. alloc1 ! (λ l₁₃. alloc1 ! (λ l₁₄. alloc1 ! (λ l₁₅. alloc1 ! (λ l₁₆. alloc1 ! (λ l₁₇. alloc1 ! (λ l₁₈. alloc1 ! (λ l₁₉. alloc1 ! (λ l₂₀. alloc1 ! (λ l₂₁. alloc1 ! (λ l₂₂. alloc1 ! (λ l₂₃. alloc1 ! (λ l₂₄. alloc0 ! $ params1 ! $
-        pass1 ! (init ! 46 refl (tt, (tt, (record { fits = gn .0 }, tt)))) $ pass1 ! (init ! 44 refl (float-lawful 𝓤 H A W binary64 .typed factor _ gf .0)) $ pass1 ! (init ! 42 refl (tt, (tt, (record { fits = gm .0 }, tt)))) $ pass1 ! (init ! 40 refl (tt, (tt, (record { fits = ga .0 }, tt)))) $ pass0 ! $
-        assigns ! (rep ! maxCircles (float-lit ! tt)) (from ! (stop !)) (init ! 38 refl (same-typed 𝓤 H A W maxCircles zeroFloat blank-is)) $
-        assigns ! (rep ! maxCircles (float-lit ! tt)) (from ! (stop !)) (init ! 36 refl (same-typed 𝓤 H A W maxCircles zeroFloat blank-is)) $
-        assigns ! (rep ! maxCircles (float-lit ! tt)) (from ! (stop !)) (init ! 34 refl (same-typed 𝓤 H A W maxCircles zeroFloat blank-is)) $
-        assigns ! (of-opd ! (load ! (from ! (fld ! refl (stop !))) (look-in ! 46 (sub ! 1 refl (whole !))))) (from ! (stop !)) (init ! 32 refl (tt, record { fits = gn .0 })) $
-        assigns ! (addr ! (from ! (fld ! refl (hop ! (look-in ! 46 (sub ! 0 refl (whole !))) (stop !))))) (from ! (stop !)) (init ! 26 refl (tt, tt)) $
-        assigns ! (agg ! (and-then ! (load ! (from ! (stop !)) (look ! 26 refl)) (and-then ! (load ! (from ! (fld ! refl (stop !))) (look-in ! 46 (sub ! 1 refl (whole !)))) (no-more !)))) (from ! (stop !)) (init ! 24 refl (tt, (tt, (record { fits = gn .0 }, tt)))) $
-        assigns ! (addr ! (from ! (stop !))) (from ! (stop !)) (init ! 22 refl (tt, tt)) $ assigns ! (addr ! (from ! (stop !))) (from ! (stop !)) (init ! 20 refl (tt, tt)) $ assigns ! (addr ! (from ! (stop !))) (from ! (stop !)) (init ! 18 refl (tt, tt)) $
+        alloc1 ! (λ l₀. alloc1 ! (λ l₁. alloc1 ! (λ l₂. alloc1 ! (λ l₃. alloc1 ! (λ l₄. alloc1 ! (λ l₅. alloc1 ! (λ l₆. alloc1 ! (λ l₇. alloc1 ! (λ l₈. alloc1 ! (λ l₉. alloc1 ! (λ l₁₀. alloc1 ! (λ l₁₁. alloc1 ! (λ l₁₂. alloc1 ! (λ l₁₃. alloc1 ! (λ l₁₄. alloc1 ! (λ l₁₅. alloc1 ! (λ l₁₆. alloc1 ! (λ l₁₇. alloc1 ! (λ l₁₈. alloc1 ! (λ l₁₉. alloc1 ! (λ l₂₀. alloc1 ! (λ l₂₁. alloc1 ! (λ l₂₂. alloc1 ! (λ l₂₃. alloc1 ! (λ l₂₄. alloc1 ! (λ l₂₅. alloc1 ! (λ l₂₆. alloc1 ! (λ l₂₇. alloc0 ! $ params1 ! $
+        pass1 ! (init ! 52 refl (tt, (tt, (record { fits = gn .0 }, tt)))) $ pass1 ! (init ! 50 refl (float-lawful 𝓤 H A W binary64 .typed factor _ gf .0)) $ pass1 ! (init ! 48 refl (tt, (tt, (record { fits = gm .0 }, tt)))) $ pass1 ! (init ! 46 refl (tt, (tt, (record { fits = ga .0 }, tt)))) $ pass0 ! $
+        assigns ! (rep ! maxCircles (float-lit ! tt)) (from ! (stop !)) (init ! 44 refl (noughts-typed 𝓤 H A W float64)) $
+        assigns ! (rep ! maxCircles (float-lit ! tt)) (from ! (stop !)) (init ! 42 refl (noughts-typed 𝓤 H A W float64)) $
+        assigns ! (rep ! maxCircles (float-lit ! tt)) (from ! (stop !)) (init ! 40 refl (noughts-typed 𝓤 H A W float64)) $
+        assigns ! (rep ! maxCircles (lit ! tt)) (from ! (stop !)) (init ! 38 refl (noughts-typed 𝓤 H A W uint16)) $
+        assigns ! (of-opd ! (load ! (from ! (fld ! refl (stop !))) (look-in ! 52 (sub ! 1 refl (whole !))))) (from ! (stop !)) (init ! 36 refl (tt, record { fits = gn .0 })) $
+        assigns ! (addr ! (from ! (fld ! refl (hop ! (look-in ! 52 (sub ! 0 refl (whole !))) (stop !))))) (from ! (stop !)) (init ! 30 refl (tt, tt)) $
+        assigns ! (agg ! (and-then ! (load ! (from ! (stop !)) (look ! 30 refl)) (and-then ! (load ! (from ! (fld ! refl (stop !))) (look-in ! 52 (sub ! 1 refl (whole !)))) (no-more !)))) (from ! (stop !)) (init ! 28 refl (tt, (tt, (record { fits = gn .0 }, tt)))) $
+        assigns ! (addr ! (from ! (stop !))) (from ! (stop !)) (init ! 26 refl (tt, tt)) $ assigns ! (addr ! (from ! (stop !))) (from ! (stop !)) (init ! 24 refl (tt, tt)) $ assigns ! (addr ! (from ! (stop !))) (from ! (stop !)) (init ! 22 refl (tt, tt)) $ assigns ! (addr ! (from ! (stop !))) (from ! (stop !)) (init ! 20 refl (tt, tt)) $
         -- the borrow of the run is opened, and the arrays are what is lent
-        move ! (51 ∷ []) $ fsplit ! $ fsplit ! $ move ! (1 ∷ []) $ fsplit ! $ move ! (54 ∷ []) $ split ! $ move ! (2 ∷ 3 ∷ 0 ∷ []) $ opens-slice ! tt T.the-row ys b o $
-        move ! (41 ∷ []) $ use1 W (‵ (partAt F64s fullShare zeros l₇ 0)) (same-lies 𝓤 H A W maxCircles zeroFloat blank-is l₇ 0) $
-        move ! (43 ∷ []) $ use1 W (‵ (partAt F64s fullShare zeros l₆ 0)) (same-lies 𝓤 H A W maxCircles zeroFloat blank-is l₆ 0) $
-        move ! (45 ∷ []) $ use1 W (‵ (partAt F64s fullShare zeros l₅ 0)) (same-lies 𝓤 H A W maxCircles zeroFloat blank-is l₅ 0) $
-        move ! (3 ∷ 0 ∷ 1 ∷ 2 ∷ []) $
-        splits ! (fmOf 𝓤 H (W .laws) 𝓣) at-mem run known-split ys zeros zeros zeros b o l₅ l₆ l₇ gn (λ p i₀ i₁ i₂ i₃. (and-then ! (load ! (from ! (stop !)) (look ! 35 refl)) (and-then ! (load ! (from ! (stop !)) (look ! 33 refl)) (and-then ! (load ! (from ! (stop !)) (look ! 31 refl)) (and-then ! (load ! (from ! (stop !)) (look ! 29 refl)) (no-more !)))))) (λ small.
-        land ! (from ! (stop !)) (init ! 38 refl (tt, record { fits = small })) $
-        assigns ! (addr ! (from ! (stop !))) (from ! (stop !)) (init ! 26 refl (tt, tt)) $ assigns ! (addr ! (from ! (stop !))) (from ! (stop !)) (init ! 24 refl (tt, tt)) $ assigns ! (addr ! (from ! (stop !))) (from ! (stop !)) (init ! 22 refl (tt, tt)) $
-        -- the core: the first two arrays are lent to be written, the third to be read
-        move ! (9 ∷ []) $ use1 W (‵ Rest ⊛ ‵ Rest) twice-rest $ split ! $ move ! (3 ∷ []) $ lent-to-write ! tt F64s (named 0) (splitOf xsOf ys zeros) l₅ 0 (λ ν₀ δ₀.
+        move ! (57 ∷ []) $ fsplit ! $ fsplit ! $ move ! (1 ∷ []) $ fsplit ! $ move ! (60 ∷ []) $ split ! $ move ! (2 ∷ 3 ∷ 0 ∷ []) $ opens-slice ! tt T.the-row ys b o $
+        move ! (45 ∷ []) $ use1 W (‵ (partAt U16s fullShare noInks l₈ 0)) (noughts-lie 𝓤 H A W uint16 l₈) $
+        move ! (47 ∷ []) $ use1 W (‵ (partAt F64s fullShare zeros l₇ 0)) (noughts-lie 𝓤 H A W float64 l₇) $
+        move ! (49 ∷ []) $ use1 W (‵ (partAt F64s fullShare zeros l₆ 0)) (noughts-lie 𝓤 H A W float64 l₆) $
+        move ! (51 ∷ []) $ use1 W (‵ (partAt F64s fullShare zeros l₅ 0)) (noughts-lie 𝓤 H A W float64 l₅) $
+        move ! (4 ∷ 0 ∷ 1 ∷ 2 ∷ 3 ∷ []) $
+        splits ! (fmOf 𝓤 H (W .laws) 𝓣) at-mem run known-split ys zeros zeros zeros noInks b o l₅ l₆ l₇ l₈ gn (λ p i₀ i₁ i₂ i₃ i₄. (and-then ! (load ! (from ! (stop !)) (look ! 40 refl)) (and-then ! (load ! (from ! (stop !)) (look ! 38 refl)) (and-then ! (load ! (from ! (stop !)) (look ! 36 refl)) (and-then ! (load ! (from ! (stop !)) (look ! 34 refl)) (and-then ! (load ! (from ! (stop !)) (look ! 32 refl)) (no-more !))))))) (λ small.
+        land ! (from ! (stop !)) (init ! 43 refl (tt, record { fits = small })) $
+        assigns ! (addr ! (from ! (stop !))) (from ! (stop !)) (init ! 29 refl (tt, tt)) $ assigns ! (addr ! (from ! (stop !))) (from ! (stop !)) (init ! 27 refl (tt, tt)) $ assigns ! (addr ! (from ! (stop !))) (from ! (stop !)) (init ! 25 refl (tt, tt)) $ assigns ! (addr ! (from ! (stop !))) (from ! (stop !)) (init ! 23 refl (tt, tt)) $
+        -- the core: the first two arrays are lent to be written, the others to be read
+        move ! (10 ∷ []) $ use1 W (‵ Rest ⊛ ‵ Rest) twice-rest $ split ! $ move ! (3 ∷ []) $ lent-to-write ! tt F64s (named 0) (splitOf xsOf ys zeros) l₅ 0 (λ ν₀ δ₀.
         move ! (6 ∷ []) $ lent-to-write ! tt F64s (named 1) (splitOf ysOf ys zeros) l₆ 0 (λ ν₁ δ₁.
         move ! (9 ∷ []) $ lent-to-read ! tt F64s (named 2) (splitOf radiiOf ys zeros) l₇ 0 (λ ν₂ δ₂.
-        move ! (6 ∷ 7 ∷ 3 ∷ 4 ∷ 0 ∷ 1 ∷ 15 ∷ 10 ∷ []) $ group ! 8 $ use1 W (raw (Core 𝓤 H A at-mem run .pre (to-core l₅ l₆ l₇ ν₀ ν₁ ν₂ δ₀ δ₁ δ₂))) (goes-core l₅ l₆ l₇ ν₀ ν₁ ν₂ δ₀ δ₁ δ₂) $
-        calls-at ! (fmOf 𝓤 H (W .laws) 𝓣) (Core 𝓤 H A at-mem run) known-core (to-core l₅ l₆ l₇ ν₀ ν₁ ν₂ δ₀ δ₁ δ₂) (and-then ! (load ! (from ! (stop !)) (look ! 26 refl)) (and-then ! (load ! (from ! (stop !)) (look ! 24 refl)) (and-then ! (load ! (from ! (stop !)) (look ! 22 refl)) (and-then ! (load ! (from ! (stop !)) (look ! 42 refl)) (and-then ! (load ! (from ! (stop !)) (look ! 51 refl)) (and-then ! (load ! (from ! (stop !)) (look ! 49 refl)) (and-then ! (load ! (from ! (stop !)) (look ! 47 refl)) (no-more !)))))))) (λ v.
-        use1 W (later (some (λ (r : Result). (core-toks l₅ l₆ l₇ ν₀ ν₁ ν₂ δ₀ δ₁ δ₂ ⊛ ‵ (R.the-row .own r (v ∷ []))) ⊛ raw (ensured 𝓤 H A core.ended (core.clauses 𝓤 H A at-mem run) (core-lfts l₅ l₆ l₇ ν₀ ν₁ ν₂ δ₀ δ₁ δ₂) (core-args l₅ l₆ l₇ ν₀ ν₁ ν₂ δ₀ δ₁ δ₂) tt r)))) (id⊢ 𝓤 _) $ await ! tt $ pick ! (λ r.
-        split ! $ move ! (1 ∷ []) $ use1 W (some (λ (ws : Lasts core.ended (core-lfts l₅ l₆ l₇ ν₀ ν₁ ν₂ δ₀ δ₁ δ₂) (core-args l₅ l₆ l₇ ν₀ ν₁ ν₂ δ₀ δ₁ δ₂)). ‵ (lasts core.ended (core-lfts l₅ l₆ l₇ ν₀ ν₁ ν₂ δ₀ δ₁ δ₂) (core-args l₅ l₆ l₇ ν₀ ν₁ ν₂ δ₀ δ₁ δ₂) ws) ⊛ raw (fact 𝓤 (Solved r (ws .0) (ws .1 .0))))) (id⊢ 𝓤 _) $ pick ! (λ ws.
+        move ! (12 ∷ []) $ lent-to-read ! tt U16s (named 3) (splitOf inks ys noInks) l₈ 0 (λ ν₃ δ₃.
+        move ! (9 ∷ 10 ∷ 6 ∷ 7 ∷ 3 ∷ 4 ∷ 0 ∷ 1 ∷ 18 ∷ 13 ∷ []) $ group ! 10 $ use1 W (raw (Core 𝓤 H A at-mem run .pre (to-core l₅ l₆ l₇ l₈ ν₀ ν₁ ν₂ ν₃ δ₀ δ₁ δ₂ δ₃))) (goes-core l₅ l₆ l₇ l₈ ν₀ ν₁ ν₂ ν₃ δ₀ δ₁ δ₂ δ₃) $
+        calls-at ! (fmOf 𝓤 H (W .laws) 𝓣) (Core 𝓤 H A at-mem run) known-core (to-core l₅ l₆ l₇ l₈ ν₀ ν₁ ν₂ ν₃ δ₀ δ₁ δ₂ δ₃) (and-then ! (load ! (from ! (stop !)) (look ! 29 refl)) (and-then ! (load ! (from ! (stop !)) (look ! 27 refl)) (and-then ! (load ! (from ! (stop !)) (look ! 25 refl)) (and-then ! (load ! (from ! (stop !)) (look ! 23 refl)) (and-then ! (load ! (from ! (stop !)) (look ! 47 refl)) (and-then ! (load ! (from ! (stop !)) (look ! 57 refl)) (and-then ! (load ! (from ! (stop !)) (look ! 55 refl)) (and-then ! (load ! (from ! (stop !)) (look ! 53 refl)) (no-more !))))))))) (λ v.
+        use1 W (later (some (λ (r : Result). (core-toks l₅ l₆ l₇ l₈ ν₀ ν₁ ν₂ ν₃ δ₀ δ₁ δ₂ δ₃ ⊛ ‵ (R.the-row .own r (v ∷ []))) ⊛ raw (ensured 𝓤 H A core.ended (core.clauses 𝓤 H A at-mem run) (core-lfts l₅ l₆ l₇ l₈ ν₀ ν₁ ν₂ ν₃ δ₀ δ₁ δ₂ δ₃) (core-args l₅ l₆ l₇ l₈ ν₀ ν₁ ν₂ ν₃ δ₀ δ₁ δ₂ δ₃) tt r)))) (id⊢ 𝓤 _) $ await ! tt $ pick ! (λ r.
+        split ! $ move ! (1 ∷ []) $ use1 W (some (λ (ws : Lasts core.ended (core-lfts l₅ l₆ l₇ l₈ ν₀ ν₁ ν₂ ν₃ δ₀ δ₁ δ₂ δ₃) (core-args l₅ l₆ l₇ l₈ ν₀ ν₁ ν₂ ν₃ δ₀ δ₁ δ₂ δ₃)). ‵ (lasts core.ended (core-lfts l₅ l₆ l₇ l₈ ν₀ ν₁ ν₂ ν₃ δ₀ δ₁ δ₂ δ₃) (core-args l₅ l₆ l₇ l₈ ν₀ ν₁ ν₂ ν₃ δ₀ δ₁ δ₂ δ₃) ws) ⊛ raw (fact 𝓤 (Solved r (ws .0) (ws .1 .0))))) (id⊢ 𝓤 _) $ pick ! (λ ws.
         split ! $ move ! (1 ∷ []) $ heard ! (Solved r (ws .0) (ws .1 .0)) (λ e.
         fsplit ! $ move ! (1 ∷ []) $ fsplit ! $ move ! (1 ∷ []) $ drop ! $ move ! (2 ∷ []) $ split ! $ move ! (1 ∷ []) $ peeks ! R.the-row (Is R.the-row) (shows 𝓤 H A R.the-row) r (v ∷ []) (λ is.
-        land ! (from ! (stop !)) (init ! 43 refl (typed r _ is)) $ rewrite ! 43 (λ (u : Val). ‵ (fat fullShare R′.mir l₉ 0 u)) (mach-of r v is) refl $ drop ! $
-        split ! $ move ! (1 ∷ []) $ split ! $ move ! (1 ∷ []) $ split ! $
-        move ! (3 ∷ 8 ∷ 5 ∷ []) $ written-back ! tt F64s (ws .0) l₅ 0 $ move ! (3 ∷ 6 ∷ 4 ∷ []) $ written-back ! tt F64s (ws .1 .0) l₆ 0 $ move ! (2 ∷ 4 ∷ []) $ read-back ! tt F64s (splitOf radiiOf ys zeros) l₇ 0 $
-        move ! (2 ∷ []) $ move ! (2 ∷ []) $
+        land ! (from ! (stop !)) (init ! 48 refl (typed r _ is)) $ rewrite ! 48 (λ (u : Val). ‵ (fat fullShare R′.mir l₁₀ 0 u)) (mach-of r v is) refl $ drop ! $
+        split ! $ move ! (1 ∷ []) $ split ! $ move ! (1 ∷ []) $ split ! $ move ! (1 ∷ []) $ split ! $
+        move ! (4 ∷ 10 ∷ 6 ∷ []) $ written-back ! tt F64s (ws .0) l₅ 0 $ move ! (4 ∷ 8 ∷ 5 ∷ []) $ written-back ! tt F64s (ws .1 .0) l₆ 0 $ move ! (4 ∷ 6 ∷ []) $ read-back ! tt F64s (splitOf radiiOf ys zeros) l₇ 0 $ move ! (3 ∷ 5 ∷ []) $ read-back ! tt U16s (splitOf inks ys noInks) l₈ 0 $
         -- what is written back
-        assigns ! (addr ! (from ! (fld ! refl (hop ! (look-in ! 53 (sub ! 0 refl (whole !))) (stop !))))) (from ! (stop !)) (init ! 18 refl (tt, tt)) $
-        assigns ! (agg ! (and-then ! (load ! (from ! (stop !)) (look ! 18 refl)) (and-then ! (load ! (from ! (fld ! refl (stop !))) (look-in ! 53 (sub ! 1 refl (whole !)))) (no-more !)))) (from ! (stop !)) (init ! 16 refl (tt, (tt, (record { fits = gn .0 }, tt)))) $
-        assigns ! (addr ! (from ! (stop !))) (from ! (stop !)) (init ! 14 refl (tt, tt)) $ assigns ! (addr ! (from ! (stop !))) (from ! (stop !)) (init ! 12 refl (tt, tt)) $
-        counts ! (fmOf 𝓤 H (W .laws) 𝓣) at-mem run known-written (r .refusal) n (small-refusal r is) (gn .0) (λ p. (and-then ! (load ! (from ! (fld ! refl (stop !))) (look-in ! 41 (sub ! 0 refl (whole !)))) (and-then ! (load ! (from ! (stop !)) (look ! 43 refl)) (no-more !)))) (λ few.
-        land ! (from ! (stop !)) (init ! 10 refl (tt, record { fits = few })) $
-        move ! (5 ∷ 1 ∷ 0 ∷ []) $ joins ! (fmOf 𝓤 H (W .laws) 𝓣) at-mem run known-join ys (ws .0) (ws .1 .0) (writtenOf (r .refusal) n) b o l₅ l₆ gn few (fits-of r (ws .0) (ws .1 .0) e) (λ p i₀ i₁ i₂. (and-then ! (load ! (from ! (stop !)) (look ! 17 refl)) (and-then ! (load ! (from ! (stop !)) (look ! 15 refl)) (and-then ! (load ! (from ! (stop !)) (look ! 13 refl)) (and-then ! (load ! (from ! (stop !)) (look ! 11 refl)) (no-more !)))))) (λ zs long said.
-        land ! (from ! (stop !)) (init ! 20 refl (tt, tt)) $
-        assigns ! (of-opd ! (load ! (from ! (stop !)) (look ! 40 refl))) (from ! (stop !)) (init ! 55 refl (typed r _ (is-mach r v is))) $
-        move ! (0 ∷ 6 ∷ 7 ∷ 8 ∷ []) $ closes-slice ! tt T.the-row ys zs long b o $
-        returns ! (look ! 54 refl) $
-        move ! (5 ∷ []) $ use1 W (‵ (froom (numbersTy maxCircles) l₇ 0)) (array-room 𝓤 H A W maxCircles (splitOf radiiOf ys zeros) l₇ 0) $
-        move ! (5 ∷ []) $ use1 W (‵ (froom (numbersTy maxCircles) l₆ 0)) (array-room 𝓤 H A W maxCircles (ws .1 .0) l₆ 0) $
-        move ! (5 ∷ []) $ use1 W (‵ (froom (numbersTy maxCircles) l₅ 0)) (array-room 𝓤 H A W maxCircles (ws .0) l₅ 0) $
-        forget ! 54 refl $ forget ! 52 refl $ forget ! 50 refl $ forget ! 48 refl $ forget ! 46 refl $ forget ! 41 refl $ forget ! 39 refl $ forget ! 37 refl $ forget ! 35 refl $ forget ! 33 refl $ forget ! 31 refl $ forget ! 29 refl $ forget ! 27 refl $ forget ! 25 refl $ forget ! 23 refl $ forget ! 21 refl $ forget ! 19 refl $ forget ! 17 refl $ forget ! 15 refl $ forget ! 13 refl $ forget ! 11 refl $ forget ! 9 refl $
-        move ! (54 ∷ 55 ∷ []) $ free1 ! $ move ! (52 ∷ 53 ∷ []) $ free1 ! $ move ! (50 ∷ 51 ∷ []) $ free1 ! $ move ! (48 ∷ 49 ∷ []) $ free1 ! $ move ! (46 ∷ 47 ∷ []) $ free1 ! $ move ! (0 ∷ 45 ∷ []) $ free1 ! $ move ! (0 ∷ 43 ∷ []) $ free1 ! $ move ! (0 ∷ 41 ∷ []) $ free1 ! $ move ! (38 ∷ 39 ∷ []) $ free1 ! $ move ! (36 ∷ 37 ∷ []) $ free1 ! $ move ! (34 ∷ 35 ∷ []) $ free1 ! $ move ! (32 ∷ 33 ∷ []) $ free1 ! $ move ! (30 ∷ 31 ∷ []) $ free1 ! $ move ! (28 ∷ 29 ∷ []) $ free1 ! $ move ! (26 ∷ 27 ∷ []) $ free1 ! $ move ! (24 ∷ 25 ∷ []) $ free1 ! $ move ! (22 ∷ 23 ∷ []) $ free1 ! $ move ! (20 ∷ 21 ∷ []) $ free1 ! $ move ! (18 ∷ 19 ∷ []) $ free1 ! $ move ! (16 ∷ 17 ∷ []) $ free1 ! $ move ! (14 ∷ 15 ∷ []) $ free1 ! $ move ! (12 ∷ 13 ∷ []) $ free1 ! $ move ! (10 ∷ 11 ∷ []) $ free1 ! $ move ! (8 ∷ 9 ∷ []) $ free1 ! $ move ! (6 ∷ 7 ∷ []) $ free1 ! $ free0 ! $
+        assigns ! (addr ! (from ! (fld ! refl (hop ! (look-in ! 59 (sub ! 0 refl (whole !))) (stop !))))) (from ! (stop !)) (init ! 19 refl (tt, tt)) $
+        assigns ! (agg ! (and-then ! (load ! (from ! (stop !)) (look ! 19 refl)) (and-then ! (load ! (from ! (fld ! refl (stop !))) (look-in ! 59 (sub ! 1 refl (whole !)))) (no-more !)))) (from ! (stop !)) (init ! 17 refl (tt, (tt, (record { fits = gn .0 }, tt)))) $
+        assigns ! (addr ! (from ! (stop !))) (from ! (stop !)) (init ! 15 refl (tt, tt)) $ assigns ! (addr ! (from ! (stop !))) (from ! (stop !)) (init ! 13 refl (tt, tt)) $
+        counts ! (fmOf 𝓤 H (W .laws) 𝓣) at-mem run known-written (r .refusal) n (small-refusal r is) (gn .0) (λ p. (and-then ! (load ! (from ! (fld ! refl (stop !))) (look-in ! 46 (sub ! 0 refl (whole !)))) (and-then ! (load ! (from ! (stop !)) (look ! 48 refl)) (no-more !)))) (λ few.
+        land ! (from ! (stop !)) (init ! 11 refl (tt, record { fits = few })) $
+        move ! (6 ∷ 3 ∷ 2 ∷ []) $ joins ! (fmOf 𝓤 H (W .laws) 𝓣) at-mem run known-join ys (ws .0) (ws .1 .0) (writtenOf (r .refusal) n) b o l₅ l₆ gn few (fits-of r (ws .0) (ws .1 .0) e) (λ p i₀ i₁ i₂. (and-then ! (load ! (from ! (stop !)) (look ! 18 refl)) (and-then ! (load ! (from ! (stop !)) (look ! 16 refl)) (and-then ! (load ! (from ! (stop !)) (look ! 14 refl)) (and-then ! (load ! (from ! (stop !)) (look ! 12 refl)) (no-more !)))))) (λ zs long said.
+        land ! (from ! (stop !)) (init ! 21 refl (tt, tt)) $
+        assigns ! (of-opd ! (load ! (from ! (stop !)) (look ! 45 refl))) (from ! (stop !)) (init ! 61 refl (typed r _ (is-mach r v is))) $
+        move ! (0 ∷ 7 ∷ 8 ∷ 9 ∷ []) $ closes-slice ! tt T.the-row ys zs long b o $
+        returns ! (look ! 60 refl) $
+        move ! (5 ∷ []) $ use1 W (‵ (froom (numbersTy uint16) l₈ 0)) (numbers-room 𝓤 H A W uint16 (splitOf inks ys noInks) l₈) $
+        move ! (6 ∷ []) $ use1 W (‵ (froom (numbersTy float64) l₇ 0)) (numbers-room 𝓤 H A W float64 (splitOf radiiOf ys zeros) l₇) $
+        move ! (6 ∷ []) $ use1 W (‵ (froom (numbersTy float64) l₆ 0)) (numbers-room 𝓤 H A W float64 (ws .1 .0) l₆) $
+        move ! (6 ∷ []) $ use1 W (‵ (froom (numbersTy float64) l₅ 0)) (numbers-room 𝓤 H A W float64 (ws .0) l₅) $
+        forget ! 60 refl $ forget ! 58 refl $ forget ! 56 refl $ forget ! 54 refl $ forget ! 52 refl $ forget ! 46 refl $ forget ! 44 refl $ forget ! 42 refl $ forget ! 40 refl $ forget ! 38 refl $ forget ! 36 refl $ forget ! 34 refl $ forget ! 32 refl $ forget ! 30 refl $ forget ! 28 refl $ forget ! 26 refl $ forget ! 24 refl $ forget ! 22 refl $ forget ! 20 refl $ forget ! 18 refl $ forget ! 16 refl $ forget ! 14 refl $ forget ! 12 refl $ forget ! 10 refl $
+        move ! (60 ∷ 61 ∷ []) $ free1 ! $ move ! (58 ∷ 59 ∷ []) $ free1 ! $ move ! (56 ∷ 57 ∷ []) $ free1 ! $ move ! (54 ∷ 55 ∷ []) $ free1 ! $ move ! (52 ∷ 53 ∷ []) $ free1 ! $ move ! (0 ∷ 51 ∷ []) $ free1 ! $ move ! (0 ∷ 49 ∷ []) $ free1 ! $ move ! (0 ∷ 47 ∷ []) $ free1 ! $ move ! (0 ∷ 45 ∷ []) $ free1 ! $ move ! (42 ∷ 43 ∷ []) $ free1 ! $ move ! (40 ∷ 41 ∷ []) $ free1 ! $ move ! (38 ∷ 39 ∷ []) $ free1 ! $ move ! (36 ∷ 37 ∷ []) $ free1 ! $ move ! (34 ∷ 35 ∷ []) $ free1 ! $ move ! (32 ∷ 33 ∷ []) $ free1 ! $ move ! (30 ∷ 31 ∷ []) $ free1 ! $ move ! (28 ∷ 29 ∷ []) $ free1 ! $ move ! (26 ∷ 27 ∷ []) $ free1 ! $ move ! (24 ∷ 25 ∷ []) $ free1 ! $ move ! (22 ∷ 23 ∷ []) $ free1 ! $ move ! (20 ∷ 21 ∷ []) $ free1 ! $ move ! (18 ∷ 19 ∷ []) $ free1 ! $ move ! (16 ∷ 17 ∷ []) $ free1 ! $ move ! (14 ∷ 15 ∷ []) $ free1 ! $ move ! (12 ∷ 13 ∷ []) $ free1 ! $ move ! (10 ∷ 11 ∷ []) $ free1 ! $ move ! (8 ∷ 9 ∷ []) $ free1 ! $ move ! (6 ∷ 7 ∷ []) $ free1 ! $ free0 ! $
         keep ! (0 ∷ 1 ∷ 2 ∷ 3 ∷ 4 ∷ []) $
-        by ! (exits zs long r (lays-of r (ws .0) (ws .1 .0) zs e said) (is-mach r v is))))))))))))))))))))))))))))))))))))))
+        by ! (exits zs long r (lays-of r (ws .0) (ws .1 .0) zs e said) (is-mach r v is))))))))))))))))))))))))))))))))))))))))))
 
 module _ {M : Type 1} (𝓤 : URA M) (H : Heap 𝓤) (A : Atoms 𝓤) (W : Given 𝓤 H A) (at-mem : Memory → SProp 𝓤) (run : Routine → Fun 𝓤) (𝓣 : Tables 𝓤 H)
     (known-split : Triple 𝓤 (𝓣 .C #split) (SplitContract 𝓤 H A at-mem run)) (known-core : Triple 𝓤 (𝓣 .C #core) (Core 𝓤 H A at-mem run))

@@ -15,18 +15,19 @@ written-requires c κs = search needs
 
 recentred-requires : tie.Need-recentred-requires
 recentred-requires c κs =
-    let a = c .before .before .before .before .before .before .before .before .before .before .before .before .before .args in
-    let s = c .before .before .before .before .before .before .before .split-array .ensures in
-    rw (c .written .ensures) (first-fits (a .n) (a .circles) (search needs) _ _ _ _ (s .1, s .2, s .3) (a .factor) (a .masks .now) (a .areas .now) (c .before .before .before .laid .result) _ _ (c .before .before .before .laid .ensures))
+    let S = c .before .before .before .before .before .before .before .before .before .before .before .before .before .before .before in
+    let a = S .args in
+    let s = c .before .before .before .before .before .before .before .before .split-array .ensures in
+    rw (c .written .ensures) (first-fits (a .n) (a .circles) (S .good .0 .1 .0 .1) _ _ _ _ _ _ (s .1, s .2, s .3, s .4) (a .factor) (a .masks .now) (a .areas .now) (c .before .before .before .laid .result) _ _ (c .before .before .before .laid .ensures))
 
 returns : tie.Need-returns
 returns c =
-    let S = c .before .before .before .before .before .before .before .before .before .before .before .before .before .before in
+    let S = c .before .before .before .before .before .before .before .before .before .before .before .before .before .before .before .before in
     let a = S .args in
-    let s = c .before .before .before .before .before .before .before .before .split-array .ensures in
+    let s = c .before .before .before .before .before .before .before .before .before .split-array .ensures in
     rw (c .recentred .ensures, c .before .written .ensures) (
-      first-answer (a .n) (a .circles) (S .good .0 .1 .0 .1) _ _ _ _ (s .1, s .2, s .3) (a .factor) (a .masks .now) (a .areas .now) (c .before .before .before .before .laid .result) _ _ (c .before .before .before .before .laid .ensures),
-      first-promises (a .n) (a .circles) (S .good .0 .1 .0 .1) _ _ _ _ (s .1, s .2, s .3) (a .factor) (a .masks .now) (a .areas .now) (c .before .before .before .before .laid .result) _ _ (c .before .before .before .before .laid .ensures),
+      first-answer (a .n) (a .circles) (S .good .0 .1 .0 .1) _ _ _ _ _ _ (s .1, s .2, s .3, s .4) (a .factor) (a .masks .now) (a .areas .now) (c .before .before .before .before .laid .result) _ _ (c .before .before .before .before .laid .ensures),
+      first-promises (a .n) (a .circles) (S .good .0 .1 .0 .1) _ _ _ _ _ _ (s .1, s .2, s .3, s .4) (a .factor) (a .masks .now) (a .areas .now) (c .before .before .before .before .laid .result) _ _ (c .before .before .before .before .laid .ensures),
     )
 
 pub normalize-layout-with-clusters-by-value-spec : {M : Type 1} → statement M

@@ -1,11 +1,12 @@
--- A word of eight bytes is two halves of four, each by Horner's rule; a byte past the end counts as 0.
+-- A word of eight bytes is two halves of four, each by Horner's rule, and a word of two is two bytes; a byte past the end counts as 0.
 use Prim.Native.Nat.{ℕ, zero, suc, _+_, _*_, _≤_}
 use mathlib.Core.Path.{_≡_, refl, _∙_}
 use mathlib.Core.List.{List, [], _∷_}
 use native.Mathlib.Omega.{arith}
+use native.Mathlib.Nat.{add-zero}
 use lib.ListN.{getD, take, drop, length, List·getD-eq-default}
 use lib.Seq.{getD-drop}
-use Rattle.scope.specs.CardFile.{littleEndian, word}
+use Rattle.scope.specs.CardFile.{littleEndian, word, shortWord}
 
 -- the rest of a list after its first element, and nothing after nothing
 rest : List ℕ → List ℕ
@@ -48,6 +49,19 @@ eight-bytes l =
 pub word-is : (l : List ℕ) (at : ℕ) → word l at ≡ fourBytes (drop at l) 0 + fourBytes (drop at l) 4 * 4294967296
 unfolding word
 word-is l at = eight-bytes (drop at l)
+
+two-bytes : (l : List ℕ) → littleEndian (take 2 l) ≡ getD l 0 0 + 256 * getD l 1 0
+two-bytes l =
+    let l1 = rest l in
+    let a0 = first-byte 1 l in let a1 = first-byte 0 l1 in
+    let b1 : getD l1 0 0 ≡ getD l 1 0 = getD-rest l 0 in
+    omega (arith, none (rest l1))
+
+pub short-word-is : (l : List ℕ) (k : ℕ) → shortWord l k ≡ getD l k 0 + 256 * getD l (k + 1) 0
+unfolding shortWord
+short-word-is l k =
+    let first : getD (drop k l) 0 0 ≡ getD l k 0 = rw add-zero at (getD-drop k l 0 0) in
+    omega (arith, two-bytes (drop k l), getD-drop k l 1 0)
 
 pub past-end : (l : List ℕ) (at k : ℕ) → length l ≤ at + k → getD (drop at l) k 0 ≡ 0
 past-end l at k h = getD-drop at l k 0 ∙ List·getD-eq-default l 0 h
