@@ -13,6 +13,9 @@
  * A caller that was written for circles without inks is compiled anew, since a circle has 32 bytes and not 24; gives each circle its ink, since the second one
  * left at 0 is refused; hands the ink to rundhefja_circle_from_params; and has circle fields of 26 bytes in its card files, since those of 24 are refused (10).
  *
+ * A caller of the rundhefja_card_text that returned a size_t is compiled anew; takes the length out of the struct that comes back now; and, where it lends fewer
+ * than RUNDHEFJA_MAX_TEXT bytes, looks at the refusal: a text that does not fit gives 15 and the length 0, where as much as fits was written before.
+ *
  * What is proved holds in IEEE 754's default state, round to nearest and with subnormals, in which a program starts unless it is linked with -ffast-math or the
  * like. In another, last bits change, and a side or a factor just below 0 passes for 0. rundhefja_floats_ok tells.
  *
@@ -20,7 +23,7 @@
  * or above 2^20 in size; 4 a radius that is not finite or outside 2^-20 to 2^20; 5 masks that do not rise strictly; 6 a factor that is not finite or outside
  * 0 to 1; 7 a side that is not finite or outside 0 to 2^23; 8 a padding that is not finite or outside 0 to 2^26; 9 a tag unknown or out of place; 10 a
  * field's length wrong for its tag; 11 a file that ends inside a field; 12 the root of NaN or of a number below 0; 13 masks and areas of unequal number;
- * 14 two circles of one run, or of one file, that have the same ink.
+ * 14 two circles of one run, or of one file, that have the same ink; 15 a lent list that is too short for what is to be written.
  * The lowest that applies comes back, but 13 before 2; a file and a field are checked front to back, and a file's values after that. */
 #ifndef RUNDHEFJA_H
 #define RUNDHEFJA_H
@@ -37,6 +40,7 @@ extern "C" {
 #define RUNDHEFJA_MAX_REGIONS 2048
 #define RUNDHEFJA_MAX_INPUT 65536
 #define RUNDHEFJA_MAX_TEXT 4096
+#define RUNDHEFJA_MAX_FILE 40779 /* a card's longest: 64 circles and 2,048 regions */
 
 /* The most stack that a call uses, in bytes: rundhefja_card_text, and any other. */
 #define RUNDHEFJA_STACK_CARD_TEXT 106496
@@ -123,6 +127,12 @@ typedef struct {
     size_t body_start, body_length;
 } rundhefja_field_result;
 
+/* length: how many bytes were written, from the start of the lent list on; what lies behind them stays. 0 where it is refused. */
+typedef struct {
+    uint8_t refusal;
+    size_t length;
+} rundhefja_written;
+
 /* empty: the boxes share nothing. */
 typedef struct {
     bool empty;
@@ -176,10 +186,19 @@ rundhefja_test rundhefja_intersects(rundhefja_circle a, rundhefja_circle b);
 /* The field that starts at a place of a file. Refuses 11, 9, 10. */
 rundhefja_field_result rundhefja_field(const uint8_t *file, size_t file_len, size_t at);
 
-/* The text that program card prints for a file: a line for the card, and for each circle its number, its cluster, the bits of x, y and radius, and its ink.
- * Returns how long it is, at most 4,096, and writes its bytes to text, as many as fit; the rest of text stays. A file that is refused has the text
- * "refused K\n", K one of 1 to 6, 9, 10, 11, 14. */
-size_t rundhefja_card_text(const uint8_t *input, size_t input_len, uint8_t *text, size_t text_len);
+/* Writes a card's file: 11 bytes, and 29 for each circle and 19 for each region. Saved, it has to be exactly the length bytes, since one more would be taken
+ * for the start of a field. Circles, factor and masks are as for rundhefja_layout. patterns[j] has the bits of area j, as memcpy takes them from a double: the
+ * file keeps a NaN's digits, and a double that is handed over may lose them. Refuses 1, 13 (masks and patterns), 2, 3, 4, 5, 6, 14, 15.
+ *
+ * Proved of each answer: the bytes read back to the same circles, regions and factor, to the bit. A card that was read is written as the file it came from.
+ *
+ * Save what a layout is made from, not what it gives: finished circles may lie beyond 2^20, and are then refused (3). */
+rundhefja_written rundhefja_write_card(const rundhefja_circle *circles, size_t circles_len, double factor, const uint64_t *masks, size_t masks_len,
+                                       const uint64_t *patterns, size_t patterns_len, uint8_t *out, size_t out_len);
+
+/* Writes the text that program card prints for a file: a line for the card, and for each circle its number, its cluster, the bits of x, y and radius, and its
+ * ink. A file that is refused has the text "refused K\n", K one of 1 to 6, 9, 10, 11, 14. RUNDHEFJA_MAX_TEXT bytes have room for any. Refuses 15. */
+rundhefja_written rundhefja_card_text(const uint8_t *input, size_t input_len, uint8_t *text, size_t text_len);
 
 /* ---- boxes and records: these take every double and refuse none */
 

@@ -1,5 +1,6 @@
-/* Answers the records of tests/oracle through the C interface and prints for each kind how many agree, as program `replay` does for the calls by value, and of
- * how many circles that were lent to be rewritten the ink is as it was. Fails where one differs or is malformed.
+/* Answers the records of tests/oracle through the C interface and prints for each kind how many agree, as program `replay` does for the calls by value; of how
+ * many circles that were lent to be rewritten the ink is as it was; and how many of the card files that are read are written again, byte for byte. Fails where
+ * one differs or is malformed.
  *
  * A record is a kind byte, a two-byte length and a body: the input, then the answer; all numbers little-endian; a circle is x, y, radius and ink, 26 bytes.
  * What is lent lies between guards. Besides the answers this holds what no contract sees: a guard, what a call only reads, and all that was lent to a call that
@@ -124,7 +125,7 @@ typedef struct {
     size_t size;
 } lent;
 
-static lent circles, rectangles, masks, areas, file, text;
+static lent circles, rectangles, masks, areas, patterns, file, text, output;
 
 static void *run(lent *l) { return l->now.bytes + GUARD; }
 
@@ -325,7 +326,7 @@ typedef struct {
     double factor;
     size_t circles, regions;
     uint8_t circle[RUNDHEFJA_MAX_CIRCLES + 1][CIRCLE_BYTES]; /* the front of a rundhefja_circle */
-    uint64_t mask[RUNDHEFJA_MAX_REGIONS + 1];
+    uint64_t mask[RUNDHEFJA_MAX_REGIONS + 1], pattern[RUNDHEFJA_MAX_REGIONS + 1]; /* an area's bits, as they are in the file */
     double area[RUNDHEFJA_MAX_REGIONS + 1];
 } parts;
 
@@ -348,7 +349,9 @@ static uint8_t take_apart(parts *p) {
         if (tag == 1) p->factor = f.factor;
         if (tag == 2) memcpy(p->circle[p->circles++], &f.circle, CIRCLE_BYTES);
         if (tag == 3) {
+            record pattern = {bytes, file.size, f.body_start + 8};
             p->mask[p->regions] = f.mask;
+            p->pattern[p->regions] = take(&pattern, 8);
             p->area[p->regions++] = f.area;
         }
         last = tag;
@@ -357,28 +360,26 @@ static uint8_t take_apart(parts *p) {
     return 0;
 }
 
-/* Writes what program `card` has to print for the lent file, from its parts laid out where they are lent. Gives how long it is; 0 where a byte was not kept, or
- * an answer has what it does not use. */
-static size_t text_of_parts(char *out) {
-    static parts p;
-    uint8_t refusal = take_apart(&p);
+/* Writes what program `card` has to print for a file that was refused so, or else for its parts, laid out where they are lent. Gives how long it is; 0 where a
+ * byte was not kept, or an answer has what it does not use. */
+static size_t text_of_parts(const parts *p, uint8_t refusal, char *out) {
     size_t i, n = 0;
     rundhefja_layout_result l;
     if (refusal == 0) {
-        lend_circles(&circles, p.circle, p.circles * CIRCLE_BYTES);
-        lend(&masks, p.mask, p.regions * sizeof *p.mask);
-        lend_doubles(&areas, p.area, p.regions * sizeof *p.area);
-        l = rundhefja_layout(run(&circles), p.circles, p.factor, run(&masks), p.regions, run(&areas), p.regions);
+        lend_circles(&circles, p->circle, p->circles * CIRCLE_BYTES);
+        lend(&masks, p->mask, p->regions * sizeof *p->mask);
+        lend_doubles(&areas, p->area, p->regions * sizeof *p->area);
+        l = rundhefja_layout(run(&circles), p->circles, p->factor, run(&masks), p->regions, run(&areas), p->regions);
         refusal = l.refusal;
         if (!kept(&circles, refusal == 0 ? circles.size : 0) || !inks_kept() || !kept(&masks, 0) || !kept(&areas, 0)) return 0;
         if (refusal != 0 && (l.count != 0 || l.moved != 0 || bits(l.padding) != 0)) return 0;
-        for (i = refusal == 0 ? p.circles : 0; i < RUNDHEFJA_MAX_CIRCLES; i++) {
+        for (i = refusal == 0 ? p->circles : 0; i < RUNDHEFJA_MAX_CIRCLES; i++) {
             if (l.numbers[i] != 0) return 0;
         }
     }
     if (refusal != 0) return sprintf(out, "refused %u\n", refusal);
-    n += sprintf(out, "circles %zu clusters %zu moved %016" PRIx64 " padding %016" PRIx64 "\n", p.circles, l.count, l.moved, bits(l.padding));
-    for (i = 0; i < p.circles; i++) {
+    n += sprintf(out, "circles %zu clusters %zu moved %016" PRIx64 " padding %016" PRIx64 "\n", p->circles, l.count, l.moved, bits(l.padding));
+    for (i = 0; i < p->circles; i++) {
         rundhefja_circle c = circle_at(i);
         n += sprintf(out + n, "%zu %u %016" PRIx64 " %016" PRIx64, i, l.numbers[i], bits(c.center.x), bits(c.center.y));
         n += sprintf(out + n, " %016" PRIx64 " %u\n", bits(c.radius), c.ink);
@@ -386,16 +387,96 @@ static size_t text_of_parts(char *out) {
     return n;
 }
 
-/* The length of the file, the file; the text. It is held twice: to the text that the library gives, and to that of the parts. */
-static int card(record *r) {
+/* Whether a call wrote these bytes to a list and nothing behind them, or, where the list is too short, gave 15 and wrote nothing. */
+static int is_written(rundhefja_written w, const lent *l, const void *bytes, size_t length) {
+    if (l->size < length) return w.refusal == 15 && w.length == 0 && kept(l, 0);
+    return w.refusal == 0 && w.length == length && memcmp(l->now.bytes + GUARD, bytes, length) == 0 && kept(l, length);
+}
+
+/* The text of the lent file, in a list of that much room. */
+static int is_text(const void *bytes, size_t length, size_t room) {
     static const uint8_t blank[RUNDHEFJA_MAX_TEXT];
+    rundhefja_written w;
+    lend(&text, blank, room);
+    w = rundhefja_card_text(run(&file), file.size, run(&text), text.size);
+    return is_written(w, &text, bytes, length) && kept(&file, 0);
+}
+
+/* How many card files were read, and how many of them were written again. */
+static unsigned long files_read, files_back;
+
+/* Writes the lent file again from its parts: to a list that just fits, to one with a byte to spare, and to one that lacks a byte. What is lent to be written has
+ * none of the file's bytes at its place, so that each byte that is written is seen. */
+static int written_again(const parts *p) {
+    static uint8_t other[ROOM];
+    const uint8_t *bytes = run(&file);
+    const size_t rooms[] = {file.size, file.size + 1, file.size - 1};
+    size_t i;
+    int same = 1;
+    for (i = 0; i < file.size; i++) other[i] = ~bytes[i];
+    lend_circles(&circles, p->circle, p->circles * CIRCLE_BYTES);
+    lend(&masks, p->mask, p->regions * sizeof *p->mask);
+    lend(&patterns, p->pattern, p->regions * sizeof *p->pattern);
+    for (i = 0; i < sizeof rooms / sizeof *rooms; i++) {
+        rundhefja_written w;
+        lend(&output, other, rooms[i]);
+        w = rundhefja_write_card(run(&circles), p->circles, p->factor, run(&masks), p->regions, run(&patterns), p->regions, run(&output), output.size);
+        same &= is_written(w, &output, bytes, file.size) && kept(&circles, 0) && kept(&masks, 0) && kept(&patterns, 0);
+    }
+    files_read++;
+    files_back += same;
+    return same;
+}
+
+/* Whether the writer refuses the parts with this number, whatever room it has, and writes nothing. */
+static int writer_refuses(const parts *p, unsigned number) {
+    static const uint8_t blank[RUNDHEFJA_MAX_FILE];
+    const size_t rooms[] = {0, sizeof blank};
+    size_t i;
+    lend_circles(&circles, p->circle, p->circles * CIRCLE_BYTES);
+    lend(&masks, p->mask, p->regions * sizeof *p->mask);
+    lend(&patterns, p->pattern, p->regions * sizeof *p->pattern);
+    for (i = 0; i < sizeof rooms / sizeof *rooms; i++) {
+        rundhefja_written w;
+        lend(&output, blank, rooms[i]);
+        w = rundhefja_write_card(run(&circles), p->circles, p->factor, run(&masks), p->regions, run(&patterns), p->regions, run(&output), output.size);
+        if (w.refusal != number || w.length != 0 || !kept(&output, 0) || !kept(&circles, 0) || !kept(&masks, 0) || !kept(&patterns, 0)) return 0;
+    }
+    return 1;
+}
+
+/* Lends the file anew, with every area a signalling NaN that has digits of its own. Each region has 19 bytes at the file's end, the area the last 8 of them. */
+static void lend_with_nans(size_t regions) {
+    static uint8_t bytes[ROOM];
+    const size_t size = file.size;
+    size_t i;
+    memcpy(bytes, run(&file), size);
+    for (i = 0; i < regions; i++) {
+        const uint64_t nan = (i % 2 == 0 ? SIGN : 0) + INFINITE + i + 1;
+        memcpy(bytes + size - 19 * i - sizeof nan, &nan, sizeof nan);
+    }
+    lend(&file, bytes, size);
+}
+
+/* The length of the file, the file; the text. It is held twice: to the text that the library gives, and to that of the parts. A file that is read is written
+ * again from its parts, and so is one with other areas; values that are refused in a file, the writer refuses with the same number. */
+static int card(record *r) {
     static char by_parts[2 * RUNDHEFJA_MAX_TEXT];
+    static parts p;
     size_t length = take(r, 2);
+    const void *expected;
+    uint8_t in_fields;
+    unsigned number;
     if (!lend_next(lend, &file, r, length)) return 0;
-    lend(&text, blank, sizeof blank);
-    length = rundhefja_card_text(run(&file), file.size, run(&text), text.size);
-    if (length != left(r) || length > text.size || memcmp(run(&text), r->bytes + r->at, length) != 0 || !kept(&text, length)) return 0;
-    return text_of_parts(by_parts) == length && memcmp(by_parts, r->bytes + r->at, length) == 0 && kept(&file, 0);
+    length = left(r);
+    expected = r->bytes + r->at;
+    if (length == 0 || length > RUNDHEFJA_MAX_TEXT || !is_text(expected, length, RUNDHEFJA_MAX_TEXT) || !is_text(expected, length, length - 1)) return 0;
+    in_fields = take_apart(&p);
+    if (text_of_parts(&p, in_fields, by_parts) != length || memcmp(by_parts, expected, length) != 0 || !kept(&file, 0)) return 0;
+    if (sscanf(by_parts, "refused %u", &number) == 1) return in_fields != 0 || writer_refuses(&p, number);
+    if (!written_again(&p)) return 0;
+    lend_with_nans(p.regions);
+    return take_apart(&p) == 0 && written_again(&p);
 }
 
 /* ---- the list */
@@ -443,5 +524,6 @@ int main(void) {
     for (kind = 1; kind < KINDS; kind++) wrong |= print(kind);
     wrong |= print(0);
     printf("inks %lu of %lu\n", inks_back, inks_lent);
-    return wrong | (inks_back != inks_lent);
+    printf("written %lu of %lu\n", files_back, files_read);
+    return wrong | (inks_back != inks_lent) | (files_back != files_read);
 }

@@ -138,6 +138,9 @@ static void structs(void) {
     PLACE(rundhefja_field_result, area, 56);
     PLACE(rundhefja_field_result, body_start, 64);
     PLACE(rundhefja_field_result, body_length, 72);
+    SIZE(rundhefja_written, 16);
+    PLACE(rundhefja_written, refusal, 0);
+    PLACE(rundhefja_written, length, 8);
     SIZE(rundhefja_overlap, 40);
     PLACE(rundhefja_overlap, empty, 0);
     PLACE(rundhefja_overlap, bounds, 8);
@@ -359,9 +362,40 @@ static int layout_gives(size_t n, double factor, size_t regions, size_t areas_le
     return refusal == 0 ? r.count == n : r.count == 0 && r.moved == 0 && is_zero(r.padding) && all_zero(r.numbers, 0);
 }
 
+/* 2,049 masks that rise, and 2,048 of them that do not. */
+static uint64_t rising[2049], level[2048];
+
+static void set_masks(void) {
+    size_t i;
+    for (i = 0; i < 2049; i++) rising[i] = i + 1;
+    for (i = 0; i < 2048; i++) level[i] = 1;
+}
+
+/* What is lent to be written to, and what stands there before. */
+#define UNWRITTEN 0xa5
+static uint8_t out[RUNDHEFJA_MAX_FILE + 1];
+
+/* Whether all from a place on is as it was lent. */
+static int unwritten(size_t from) {
+    for (; from < sizeof out; from++) {
+        if (out[from] != UNWRITTEN) return 0;
+    }
+    return 1;
+}
+
+static int write_gives(size_t n, double factor, const uint64_t *masks, size_t regions, size_t patterns_len, size_t room, uint8_t refusal) {
+    static const uint64_t patterns[2049];
+    rundhefja_written w;
+    memset(out, UNWRITTEN, sizeof out);
+    memcpy(row_was, row, sizeof row);
+    w = rundhefja_write_card(row, n, factor, masks, regions, patterns, patterns_len, out, room);
+    return w.refusal == refusal && w.length == (refusal == 0 ? 11 + 29 * n + 19 * regions : 0) && unwritten(w.length) && row_kept(14);
+}
+
 /* Whether each call on a run answers so of the first n circles of the row. */
 static int calls_give(size_t n, uint8_t refusal) {
-    return clusters_give(n, refusal) && container_gives(n, rectangle(5, 7, 9000, 9000), refusal) && layout_gives(n, 0.5, 1, 1, refusal);
+    return clusters_give(n, refusal) && container_gives(n, rectangle(5, 7, 9000, 9000), refusal) && layout_gives(n, 0.5, 1, 1, refusal)
+           && write_gives(n, 0.5, rising, 1, 1, sizeof out, refusal);
 }
 
 static void inks(void) {
@@ -451,23 +485,83 @@ static void field(void) {
     }
 }
 
+/* Whether these are the eight bytes of a number, the lowest first. */
+static int is_number(const uint8_t *bytes, uint64_t n) {
+    uint64_t b;
+    memcpy(&b, bytes, sizeof b);
+    return b == n;
+}
+
+static void write_card(const char *name) {
+    static const uint64_t mask = 5, pattern = PAYLOAD;
+    rundhefja_circle two[2];
+    rundhefja_field_result f;
+    rundhefja_written w;
+    uint8_t input[100];
+    size_t n = sample(name, input, sizeof input);
+
+    two[0] = circle(0, 0, 1, 1);
+    two[1] = circle(10, 0, 1, 2);
+    memset(out, UNWRITTEN, sizeof out);
+    w = rundhefja_write_card(two, 2, 0, &mask, 0, &pattern, 0, out, n);
+    check(w.refusal == 0 && w.length == n && memcmp(out, input, n) == 0 && unwritten(n), "the sample card, written");
+    memset(out, UNWRITTEN, sizeof out);
+    w = rundhefja_write_card(two, 2, 0, &mask, 0, &pattern, 0, out, n - 1);
+    check(w.refusal == 15 && w.length == 0 && unwritten(0), "the sample card, and a list that lacks a byte");
+
+    two[0] = circle(-0.0, 3, 5, 65535);
+    memset(out, UNWRITTEN, sizeof out);
+    w = rundhefja_write_card(two, 1, -0.0, &mask, 1, &pattern, 1, out, sizeof out);
+    check(w.refusal == 0 && w.length == 59 && unwritten(59), "a card of a circle and a region");
+    check(out[0] == 1 && out[1] == 8 && out[2] == 0 && is_number(out + 3, bits(-0.0)), "a factor of -0, written");
+    check(out[11] == 2 && out[12] == 26 && out[13] == 0 && is_number(out + 14, bits(-0.0)) && out[38] == 255 && out[39] == 255, "a circle, written");
+    check(out[40] == 3 && out[41] == 16 && out[42] == 0 && is_number(out + 43, 5) && is_number(out + 51, PAYLOAD), "an area that is a NaN, written");
+    f = rundhefja_field(out, w.length, 11);
+    check(f.refusal == 0 && is_circle(f.circle, 0, 3, 5, 65535) && bits(f.circle.center.x) == bits(-0.0), "a circle, written and read");
+
+    set_row();
+    check(write_gives(0, 0.5, rising, 0, 0, 11, 0) && write_gives(0, 0.5, rising, 0, 0, 10, 15) && write_gives(0, 0.5, rising, 0, 0, 0, 15), "the shortest file");
+    check(write_gives(64, 0.5, rising, 2048, 2048, RUNDHEFJA_MAX_FILE, 0), "the longest file");
+    check(write_gives(64, 0.5, rising, 2048, 2048, RUNDHEFJA_MAX_FILE - 1, 15), "the longest file, and a list that lacks a byte");
+    row[2].ink = row[1].ink;
+    check(write_gives(3, 0.5, rising, 1, 1, 0, 14), "15 after 14");
+    check(write_gives(3, 1.5, rising, 1, 1, 0, 6), "15 after 6");
+    check(write_gives(3, 1.5, level, 2, 2, 0, 5), "15 after 5");
+    row[0].radius = 0;
+    check(write_gives(3, 1.5, level, 2, 2, 0, 4), "15 after 4");
+    row[1].center.y = 1048577;
+    check(write_gives(3, 1.5, level, 2, 2, 0, 3), "15 after 3");
+    check(write_gives(3, 0.5, rising, 2049, 2049, 0, 2), "15 after 2");
+    check(write_gives(3, 0.5, rising, 2049, 2048, 0, 13) && write_gives(3, 0.5, rising, 0, 1, 0, 13), "15 after 13");
+    check(write_gives(65, 0.5, rising, 2049, 2048, 0, 1), "15 after 1");
+}
+
+/* Whether an input has this text, which is written to a list of so much room or, where it does not fit, not at all. */
+static int text_gives(const uint8_t *input, size_t n, size_t room, const char *expected) {
+    const size_t length = strlen(expected);
+    rundhefja_written w;
+    memset(out, UNWRITTEN, sizeof out);
+    w = rundhefja_card_text(input, n, out, room);
+    if (room < length) return w.refusal == 15 && w.length == 0 && unwritten(0);
+    return w.refusal == 0 && w.length == length && memcmp(out, expected, length) == 0 && unwritten(length);
+}
+
 static void card_text(const char *name) {
     static const char expected[] =
         "circles 2 clusters 2 moved 0000000000000000 padding 0000000000000000\n"
         "0 0 bff0000000000000 0000000000000000 3ff0000000000000 1\n"
         "1 1 3ff0000000000000 0000000000000000 3ff0000000000000 2\n";
     static uint8_t long_input[RUNDHEFJA_MAX_INPUT + 1];
-    uint8_t input[100], text[RUNDHEFJA_MAX_TEXT];
+    uint8_t input[100];
     size_t n = sample(name, input, sizeof input), length = sizeof expected - 1;
-    memset(text, 1, sizeof text);
-    check(rundhefja_card_text(input, n, text, sizeof text) == length && memcmp(text, expected, length) == 0 && text[length] == 1, "the text of the sample card");
-    memset(text, 1, sizeof text);
-    check(rundhefja_card_text(input, n, text, 10) == length && memcmp(text, expected, 10) == 0 && text[10] == 1, "as much of the text as fits");
-    check(rundhefja_card_text(input, n - 1, text, sizeof text) == 11 && memcmp(text, "refused 11\n", 11) == 0, "a card that is cut");
+    check(text_gives(input, n, RUNDHEFJA_MAX_TEXT, expected), "the text of the sample card");
+    check(text_gives(input, n, length, expected), "a text that just fits");
+    check(text_gives(input, n, length - 1, expected) && text_gives(input, n, 0, expected), "a text that does not fit");
+    check(text_gives(input, n - 1, RUNDHEFJA_MAX_TEXT, "refused 11\n"), "a card that is cut");
     if (n == 69) input[67] = 1;
-    check(rundhefja_card_text(input, n, text, sizeof text) == 11 && memcmp(text, "refused 14\n", 11) == 0, "a card with one ink twice");
-    check(rundhefja_card_text(input, 0, text, sizeof text) == 10 && memcmp(text, "refused 9\n", 10) == 0, "an empty card");
-    check(rundhefja_card_text(long_input, sizeof long_input, text, sizeof text) == 10 && memcmp(text, "refused 2\n", 10) == 0, "an input that is too long");
+    check(text_gives(input, n, RUNDHEFJA_MAX_TEXT, "refused 14\n"), "a card with one ink twice");
+    check(text_gives(input, 0, 10, "refused 9\n") && text_gives(input, 0, 9, "refused 9\n"), "an empty card");
+    check(text_gives(long_input, sizeof long_input, RUNDHEFJA_MAX_TEXT, "refused 2\n"), "an input that is too long");
 }
 
 static void boxes(void) {
@@ -489,6 +583,7 @@ static void boxes(void) {
 }
 
 int main(int argc, char **argv) {
+    set_masks();
     structs();
     root();
     distances();
@@ -501,6 +596,7 @@ int main(int argc, char **argv) {
     layout();
     inks();
     field();
+    write_card(argc > 1 ? argv[1] : "samples/two.card");
     card_text(argc > 1 ? argv[1] : "samples/two.card");
     boxes();
     return wrong;

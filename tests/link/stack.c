@@ -12,11 +12,11 @@
 #define PAINT 0xa5
 
 static rundhefja_circle circles[RUNDHEFJA_MAX_CIRCLES];
-static uint64_t masks[RUNDHEFJA_MAX_REGIONS];
+static uint64_t masks[RUNDHEFJA_MAX_REGIONS], patterns[RUNDHEFJA_MAX_REGIONS];
 static double areas[RUNDHEFJA_MAX_REGIONS];
-static uint8_t card[RUNDHEFJA_MAX_INPUT], text[RUNDHEFJA_MAX_TEXT];
+static uint8_t card[RUNDHEFJA_MAX_INPUT], text[RUNDHEFJA_MAX_TEXT], written[RUNDHEFJA_MAX_FILE];
 static rundhefja_rectangle boxes[RUNDHEFJA_MAX_CIRCLES];
-static size_t card_length, text_length;
+static size_t card_length;
 static int refusal;
 
 /* ---- the largest inputs: every circle has a region of its own, and shares others */
@@ -35,6 +35,7 @@ static void fill(void) {
         masks[i] = i * UINT64_C(0x1f0000001f0003) + 1;
         areas[i] = 1;
     }
+    memcpy(patterns, areas, sizeof patterns);
 }
 
 static void put(const void *bytes, size_t n) {
@@ -96,16 +97,23 @@ static void *pack(void *unused) {
     return unused;
 }
 
+static void *write_card(void *unused) {
+    const rundhefja_written w =
+        rundhefja_write_card(circles, RUNDHEFJA_MAX_CIRCLES, 0.5, masks, RUNDHEFJA_MAX_REGIONS, patterns, RUNDHEFJA_MAX_REGIONS, written, sizeof written);
+    refusal = w.refusal != 0 || w.length != card_length || memcmp(written, card, card_length) != 0;
+    return unused;
+}
+
 static void *card_text(void *unused) {
-    text_length = rundhefja_card_text(card, card_length, text, sizeof text);
-    refusal = text_length < 100; /* "refused K" is shorter */
+    const rundhefja_written w = rundhefja_card_text(card, card_length, text, sizeof text);
+    refusal = w.refusal != 0 || w.length < 100; /* "refused K" is shorter */
     return unused;
 }
 
 /* More regions than a card may have. */
 static void *long_text(void *unused) {
-    text_length = rundhefja_card_text(card, sizeof card, text, sizeof text);
-    refusal = text_length >= 100;
+    const rundhefja_written w = rundhefja_card_text(card, sizeof card, text, sizeof text);
+    refusal = w.refusal != 0 || w.length >= 100;
     return unused;
 }
 
@@ -137,6 +145,7 @@ static const struct {
     {"clusters of 64 circles", clusters, RUNDHEFJA_STACK},
     {"clusters by 2,048 regions", area_clusters, RUNDHEFJA_STACK},
     {"packing of 64 rectangles", pack, RUNDHEFJA_STACK},
+    {"the file of a card of 64 circles and 2,048 regions", write_card, RUNDHEFJA_STACK},
     {"the text of a card of 64 circles and 2,048 regions", card_text, RUNDHEFJA_STACK_CARD_TEXT},
     {"the text of an input of 65,536 bytes", long_text, RUNDHEFJA_STACK_CARD_TEXT},
 };

@@ -1,7 +1,7 @@
 // Floats and their patterns.
 ghost use mathlib.Core.Path.{_≡_};
 ghost use lib.Ieee.{nan};
-ghost use Rattle.scope.specs.CardFile.{floatOf};
+ghost use Rattle.scope.specs.CardFile.{floatOf, patternOf};
 ghost use Rattle.scope.specs.Print.{bitsOf};
 
 // 2^52, one step of the exponent field, and 2^63, the sign.
@@ -28,15 +28,22 @@ fn not_a_number() -> f64
     0.0 / 0.0
 }
 
-// The pattern of a float, with either zero as 0 and a NaN as the one that has only the highest digit set.
+// The pattern of a float: that of a NaN has only the highest digit set.
+pub fn pattern_of(x: f64) -> u64
+    ensures { λ r. ⌜ r ≡ patternOf x ⌝ }
+{
+    if x != x {
+        return 9221120237041090560;
+    }
+    f64::to_bits(x)
+}
+
+// The pattern that is printed: either zero as 0.
 pub fn bits_of(x: f64) -> u64
     ensures { λ r. ⌜ r ≡ bitsOf x ⌝ }
 {
     if x == 0.0 {
         return 0;
     }
-    if x != x {
-        return 9221120237041090560;
-    }
-    f64::to_bits(x)
+    pattern_of(x)
 }

@@ -12,7 +12,8 @@ use Rattle.scope.specs.Runs.{inTurn}
 use Rattle.scope.specs.Links.{circle, nowhere}
 use Rattle.scope.specs.Text.{bytes}
 use Rattle.scope.specs.Print.{decimal, sixteenDigits, bitsOf, float, line, printed}
-use Rattle.card_file.specs.Texts.{Put, linesOf, layoutOf}
+use Rattle.card_file.specs.Puts.{Put}
+use Rattle.card_file.specs.Texts.{linesOf, layoutOf}
 use Rattle.card_file.proofs.Putting.{put-none, put-both}
 
 module _ (circles : List Circle) (numbers : List ℕ) where
@@ -25,7 +26,7 @@ module _ (circles : List Circle) (numbers : List ℕ) where
   lines-next i {k} {l} {m} {p} {q} {r} x y = subst (λ (j : ℕ). Put (linesOf circles numbers j) p k r m) (sym (add-one i)) (put-both x y)
 
   -- of the first n circles, up to the n-th, they are the same lines
-  pub lines-of-first : (n i : ℕ) → i ≤ n → linesOf (take n circles) numbers i ≡ linesOf circles numbers i
+  lines-of-first : (n i : ℕ) → i ≤ n → linesOf (take n circles) numbers i ≡ linesOf circles numbers i
   unfolding inTurn
   lines-of-first n zero h = refl
   lines-of-first n (suc i) h = rw (lines-of-first n i (omega arith), getD-take n circles i nowhere (omega arith))

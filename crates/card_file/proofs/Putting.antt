@@ -1,38 +1,53 @@
--- Bytes put one after the other behind a text.
-use Prim.Native.Nat.{ℕ, suc, _+_, _-_, _≤_, _<_}
+-- Bytes put one after the other behind what a lent list holds.
+use Prim.Native.Nat.{ℕ, zero, suc, _+_, _-_, _≤_, _<_}
 use mathlib.Core.Path.{_≡_, refl, sym, ap, subst, _∙_}
 use mathlib.Core.List.{List, [], _∷_, _++_, append-assoc, append-nil}
 use native.Mathlib.Omega.{arith}
 use native.Mathlib.Numerals.{add-one}
-use lib.ListN.{length, set, replicate, length-append, take, getD}
-use lib.Seq.{set-at, take-suc, take-length, length-take-le}
+use lib.ListN.{length, set, replicate, length-append, length-drop, take, drop, getD}
+use lib.Seq.{set-at, drop-cons, take-suc, take-length, take-at, length-take-le}
 use Rattle.scope.specs.Runs.{filled}
 use Rattle.laws.proofs.Runs.{length-filled}
-use Rattle.card_file.specs.Texts.{maxText, Put}
-
--- a store behind a text is the text with one byte more
-pub filled-next : (w : ℕ) (text : List ℕ) (b : ℕ) → length text < w → set (filled w 0 text) (length text) b ≡ filled w 0 (text ++ (b ∷ []))
-unfolding filled
-filled-next w text b h =
-    let left : w - length text ≡ suc (w - length (text ++ (b ∷ []))) = rw length-append (omega arith) in
-    rw (left, append-assoc) (set-at text 0 _ b (length text) refl)
+use Rattle.card_file.specs.Puts.{Holds, Put}
+use Rattle.card_file.specs.Texts.{maxText}
 
 pub put-none : (at : ℕ) (l : List ℕ) → Put [] at l at l
-put-none at l = record { place = omega arith; holds = λ text h. rw append-nil h }
+put-none at l = record { place = omega arith; holds = λ lent held h. rw append-nil h }
 
-pub put-one : (at b : ℕ) (l : List ℕ) → at < maxText → Put (b ∷ []) at l (at + 1) (set l at b)
+-- ---- one byte
+
+-- what holds something is as long as what was lent
+length-held : {lent held l : List ℕ} {at : ℕ} → Holds lent held at l → length l ≡ length lent
+length-held {lent} {held} {l} {at} h = rw (h .is, length-append, length-drop) (omega (arith, h .place, h .fits))
+
+-- a store behind what is held is one byte more
+held-next : (lent held : List ℕ) (b : ℕ) → length held < length lent
+    → set (held ++ drop (length held) lent) (length held) b ≡ (held ++ (b ∷ [])) ++ drop (length (held ++ (b ∷ []))) lent
+held-next lent held b h =
+    let more : length (held ++ (b ∷ [])) ≡ suc (length held) = rw length-append (omega arith) in
+    rw (more, append-assoc, drop-cons lent (length held) 0 h) (set-at held (getD lent (length held) 0) (drop (suc (length held)) lent) b (length held) refl)
+
+pub put-one : (at b : ℕ) (l : List ℕ) → at < length l → Put (b ∷ []) at l (at + 1) (set l at b)
 put-one at b l h =
     record {
       place = refl;
-      holds = λ text k. record { place = rw length-append (omega (arith, k .place)); is = rw (k .is, k .place) (filled-next maxText text b (omega (arith, k .place))) };
+      holds = λ lent held k.
+          let inside : at < length lent = omega (arith, length-held k) in
+          record {
+            place = rw length-append (omega (arith, k .place));
+            fits = omega arith;
+            is = rw (k .is, k .place) (held-next lent held b (omega (arith, k .place)));
+          };
     }
+
+-- ---- one after the other
 
 -- first a, then b
 pub put-both : {a b k l m : List ℕ} {p q r : ℕ} → Put a p k q l → Put b q l r m → Put (a ++ b) p k r m
 put-both {a} {b} x y =
     record {
       place = rw length-append (omega (arith, x .place, y .place));
-      holds = λ text h. rw (← append-assoc) (y .holds (text ++ a) (x .holds text h));
+      holds = λ lent held h. rw (← append-assoc) (y .holds lent (held ++ a) (x .holds lent held h));
     }
 
 -- the first i of some bytes, then the next
@@ -55,17 +70,30 @@ put-last {a} {whole} e d x y = put-equal (ap (λ (z : ℕ). a ++ (z ∷ [])) d �
 pub put-only : {whole k l : List ℕ} {b c p q : ℕ} → whole ≡ c ∷ [] → b ≡ c → Put (b ∷ []) p k q l → Put whole p k q l
 put-only e d x = put-equal (ap (λ (z : ℕ). z ∷ []) d ∙ sym e) x
 
-filled-empty : (w : ℕ) → filled {A = ℕ} w 0 [] ≡ replicate w 0
-unfolding filled
-filled-empty w = let e : w - 0 ≡ w = omega arith in ap (λ (n : ℕ). replicate {A = ℕ} n 0) e
+-- ---- the whole
 
--- a text that was put into an empty buffer
+-- bytes put from the start of a lent list
+pub put-front : {bytes out after : List ℕ} {r : ℕ} → Put bytes 0 out r after → (r ≡ length bytes) × (after ≡ bytes ++ drop (length bytes) out)
+put-front {bytes} {out} x = let h = x .holds out [] (record { place = refl; fits = omega arith; is = refl }) in (h .place, h .is)
+
+drop-replicate : (k w : ℕ) → drop k (replicate w 0) ≡ replicate {A = ℕ} (w - k) 0
+drop-replicate zero w = let e : w - 0 ≡ w = omega arith in ap (λ (n : ℕ). replicate {A = ℕ} n 0) (sym e)
+drop-replicate (suc k) zero = let e : zero - suc k ≡ 0 = omega arith in ap (λ (n : ℕ). replicate {A = ℕ} n 0) (sym e)
+drop-replicate (suc k) (suc w) = let e : suc w - suc k ≡ w - k = omega arith in rw e (drop-replicate k w)
+
+-- a text put into an empty array
 pub put-first : {text l : List ℕ} {r : ℕ} → Put text 0 (replicate maxText 0) r l → (r ≡ length text) × (l ≡ filled maxText 0 text)
-put-first x = let h = x .holds [] (record { place = refl; is = sym (filled-empty maxText) }) in (h .place, h .is)
+unfolding filled
+put-first {text} x = let h = put-front x in (h .0, h .1 ∙ ap (λ (z : List ℕ). text ++ z) (drop-replicate (length text) maxText))
 
--- what a text says of its buffer: there is room for it, so it can be handed on as a part
-pub text-fits : (text : List ℕ) (n : ℕ) (l : List ℕ) → (n ≡ length text) × (l ≡ filled maxText 0 text) × (n ≤ maxText) → (n ≤ length l) × (n ≡ length (take n l))
-text-fits text n l h =
-    let long : length l ≡ maxText = rw (h .1) (length-filled maxText 0 text (omega (arith, h .0, h .2))) in
-    let fits : n ≤ length l = omega (arith, long, h .2) in
-    (fits, sym (length-take-le n l fits))
+-- what a text says of its array: there is room for it, so it can be handed on as a part, which is the text
+module _ (text : List ℕ) (n : ℕ) (l : List ℕ) (h : (n ≡ length text) × (l ≡ filled maxText 0 text) × (n ≤ maxText)) where
+  pub text-fits : (n ≤ length l) × (n ≡ length (take n l))
+  text-fits =
+      let long : length l ≡ maxText = rw (h .1) (length-filled maxText 0 text (omega (arith, h .0, h .2))) in
+      let fits : n ≤ length l = omega (arith, long, h .2) in
+      (fits, sym (length-take-le n l fits))
+
+  pub text-part : take n l ≡ text
+  unfolding filled
+  text-part = rw (h .1) (take-at text (replicate (maxText - length text) 0) n (sym (h .0)))

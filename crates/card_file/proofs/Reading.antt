@@ -3,9 +3,8 @@ use Prim.Native.Nat.{ℕ, suc, _+_, _<_, _≤_}
 use native.Mathlib.Omega.{arith}
 use mathlib.Core.Path.{_≡_, refl, _∙_}
 use mathlib.Core.Logic.{⊎-elim}
-use mathlib.Core.Bool.{false, _&&_, _||_}
+use mathlib.Core.Bool.{false}
 use mathlib.Core.List.{List}
-use lib.Dec.{eqb}
 use lib.ListN.{length, drop, set, replicate, length-drop, drop-of-length-le}
 use lib.Seq.{drop-drop}
 use lib.Ieee.{Float}
@@ -13,11 +12,13 @@ use borrow.Author.Tests.{eq-eqb, ne-eqb}
 use Rattle.shapes.specs.declared.circle.Circle.{Circle}
 use Rattle.scope.specs.Numbers.{nought}
 use Rattle.scope.specs.Limits.{circleCap, regionCap}
-use Rattle.scope.specs.Refusals.{given, tooMany, tooManyRegions}
-use Rattle.scope.specs.CardFile.{Card, tag, body, bodyLength, headLength, bodyCut, misplaced, word, floatOf, circleFrom, started, withField, firstRefusal, nextRefusal, orRefused, fields}
-use Rattle.laws.proofs.Cases.{is-false, and-iff, or-iff, not-not-iff, eqb-iff, not-ltb-iff}
-use Rattle.laws.proofs.EntryPoints.{first-field-reads, next-field-reads}
+use Rattle.scope.specs.Refusals.{given}
+use Rattle.scope.specs.CardFile.{Card, tag, body, bodyLength, headLength, bodyCut, word, floatOf, circleFrom, started, withField, firstRefusal, nextRefusal, orRefused, fields}
+use Rattle.laws.proofs.Cases.{is-false}
+use Rattle.laws.proofs.Accepted.{not-too-many-iff, not-too-many-regions-iff}
 use Rattle.laws.proofs.CardFiles.{next-field, no-field, goes-on}
+use Rattle.laws.proofs.Fields.{first-accepted-iff, next-accepted-iff}
+use Rattle.laws.proofs.NextFields.{next-is}
 use Rattle.intake.specs.Blanks.{blank}
 use Rattle.intake.specs.Limits.{maxCircles, maxRegions}
 use Rattle.card_file.specs.Answers.{listed}
@@ -27,32 +28,24 @@ use Rattle.card_file.proofs.Filling.{none-used, one-more-used, used-nex
 -- ---- the first field
 
 pub first-is-whole : (file : List ℕ) → firstRefusal file ≡ 0 → bodyCut file ≡ false
-first-is-whole file e = is-false (bodyCut file) (first-field-reads file .accepted .0 e .1 .1 .1 .1 .0)
+first-is-whole file e = is-false (bodyCut file) (first-accepted-iff file .0 e .0 .body-whole)
 
 -- ---- what a field that is not refused is
 
 module _ (card : Card) (rest : List ℕ) (accepted : nextRefusal card rest ≡ 0) where
   pub next-is-whole : bodyCut rest ≡ false
-  next-is-whole = is-false (bodyCut rest) (next-field-reads card rest .accepted .0 accepted .1 .1 .1 .1 .1 .0)
+  next-is-whole = is-false (bodyCut rest) (next-accepted-iff card rest (tag rest) refl .0 accepted .0 .body-whole)
 
   pub room-for-circle : tag rest ≡ 2 → length (card .circles) < maxCircles
-  unfolding tooMany circleCap
-  room-for-circle t =
-      let few = next-field-reads card rest .accepted .0 accepted .1 .1 .0 in
-      omega (arith, not-ltb-iff circleCap (suc (length (card .circles))) .0 (λ h. few (and-iff (eqb (tag rest) 2) (tooMany (suc (length (card .circles)))) .1 (eqb-iff (tag rest) 2 .1 t, h))))
+  unfolding circleCap
+  room-for-circle t = not-too-many-iff (suc (length (card .circles))) .0 (next-accepted-iff card rest 2 t .0 accepted .2)
 
   pub is-region : (tag rest ≡ 2 → ⊥) → tag rest ≡ 3
-  unfolding misplaced
-  is-region t =
-      let t2 = eqb (tag rest) 2 && eqb (length (card .masks)) 0 in
-      ⊎-elim (λ h. absurd (t (eqb-iff (tag rest) 2 .0 (and-iff (eqb (tag rest) 2) (eqb (length (card .masks)) 0) .0 h .0)))) (λ h. eqb-iff (tag rest) 3 .0 h)
-      (or-iff t2 (eqb (tag rest) 3) .0 (not-not-iff (t2 || eqb (tag rest) 3) .0 (next-field-reads card rest .accepted .0 accepted .1 .0)))
+  is-region t = ⊎-elim (λ m. absurd (t (m .1 .tagged))) (λ m. m .0 .tagged) (next-is card rest accepted)
 
   pub room-for-region : tag rest ≡ 3 → length (card .masks) < maxRegions
-  unfolding tooManyRegions regionCap
-  room-for-region t =
-      let few = next-field-reads card rest .accepted .0 accepted .1 .1 .1 .0 in
-      omega (arith, not-ltb-iff regionCap (suc (length (card .masks))) .0 (λ h. few (and-iff (eqb (tag rest) 3) (tooManyRegions (suc (length (card .masks)))) .1 (eqb-iff (tag rest) 3 .1 t, h))))
+  unfolding regionCap
+  room-for-region t = not-too-many-regions-iff (suc (length (card .masks))) .0 (next-accepted-iff card rest 3 t .0 accepted .3)
 
 -- ---- what it adds
 

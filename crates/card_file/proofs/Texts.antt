@@ -1,8 +1,8 @@
--- What is printed of a card: the refusal's text, or that of its layout.
+-- What is printed of a card: the refusal's text, or that of its layout. And its writing into a lent list.
 use Prim.Native.Nat.{ℕ, zero, suc, _≤_, _<_}
 use native.Mathlib.Omega.{arith}
 use mathlib.Core.Path.{_≡_, refl, sym, _∙_}
-use mathlib.Core.Bool.{false}
+use mathlib.Core.Bool.{false, cond}
 use mathlib.Core.List.{List}
 use lib.Ieee.{Float}
 use lib.ListN.{length, take, drop}
@@ -10,11 +10,13 @@ use lib.Seq.{length-take-le, take-at}
 use borrow.Author.Tests.{lt-ltb, le-ltb}
 use Rattle.shapes.specs.declared.circle.Circle.{Circle}
 use Rattle.scope.specs.Limits.{circleCap, inputCap}
-use Rattle.scope.specs.Refusals.{answer, tooMany}
+use Rattle.scope.specs.Refusals.{answer, frontToBack, tooMany, tooShort, textRefusal}
 use Rattle.scope.specs.Layout.{Layout, layout}
 use Rattle.scope.specs.CardFile.{readCard}
 use Rattle.scope.specs.Print.{printed, refusedText, answerText, cardText}
+use Rattle.scope.specs.Saving.{refusedSaving, acceptedSaving, saving, writeText}
 use Rattle.scope.specs.Twins.{firstLayout}
+use Rattle.laws.proofs.EntryPoints.{text-reads}
 use Rattle.layout.proofs.Lengths.{layout-length}
 use Rattle.card_file.specs.Texts.{NoneAbove, layoutOf}
 use Rattle.card_file.specs.Answers.{ReadCard}
@@ -69,3 +71,18 @@ module _ (input : List ℕ) (short : length input ≤ inputCap) (k : ℕ) (card 
   pub given-text : k ≡ 0 → printed (layout (card .circles) (card .factor) (card .masks) (card .areas)) ≡ cardText input
   unfolding answer answerText
   given-text z = rw z at of-answer
+
+-- ---- the text written into a lent list
+
+module _ (input out : List ℕ) where
+  text-number : textRefusal (length out) (length (cardText input)) ≡ cond (tooShort (length out) (length (cardText input))) 15 0
+  unfolding frontToBack
+  text-number = text-reads (length out) (length (cardText input)) .runs
+
+  pub text-refused : length out < length (cardText input) → refusedSaving out 15 ≡ writeText input out
+  unfolding writeText saving tooShort
+  text-refused h = rw (text-number, lt-ltb (length out) (length (cardText input)) h)
+
+  pub text-written : length (cardText input) ≤ length out → acceptedSaving (cardText input) out ≡ writeText input out
+  unfolding writeText saving tooShort
+  text-written h = rw (text-number, le-ltb (length out) (length (cardText input)) h)

@@ -1,4 +1,4 @@
--- A text in a buffer of bytes, and what it is to put more behind it.
+-- The text that is printed, in its array, and the parts that it is put together from.
 use Prim.Native.Nat.{ℕ, _+_, _*_, _-_, _≤_, _<_}
 use mathlib.Core.Path.{_≡_}
 use mathlib.Core.List.{List, [], _++_}
@@ -16,16 +16,6 @@ maxText = 4096
 -- the first n bytes are the text, and the rest is 0
 abbrev pub IsText : List ℕ → ℕ → List ℕ → Type 0
 IsText text n bytes = (n ≡ length text) × (bytes ≡ filled maxText 0 text) × (n ≤ maxText)
-
--- the buffer begins with the text and is 0 behind it, where the next byte goes
-pub record Holds (text : List ℕ) (at : ℕ) (buffer : List ℕ) : Type 0 where
-  pub place : at ≡ length text
-  pub is : buffer ≡ filled maxText 0 text
-
--- the bytes were put behind whatever text the buffer held
-pub record Put (bytes : List ℕ) (at : ℕ) (before : List ℕ) (next : ℕ) (after : List ℕ) : Type 0 where
-  pub place : next ≡ at + length bytes
-  pub holds : (text : List ℕ) → Holds text at before → Holds (text ++ bytes) next after
 
 -- clusters are numbered by smallest member, so that no circle's cluster has a number above the circle's
 abbrev pub NoneAbove : ℕ → List ℕ → Type 0

@@ -6,8 +6,9 @@ ghost use lib.Dec.{eqb};
 ghost use lib.ListN.{length, take, drop};
 ghost use Rattle.scope.specs.Refusals.{tooMany, tooManyRegions, layoutRefusal};
 ghost use Rattle.scope.specs.CardFile.{started, firstRefusal, misplaced, nextRefusal, fields, readFile, readCard};
+ghost use Rattle.scope.specs.Saving.{fileOf};
 ghost use Rattle.intake.specs.Limits.{maxCircles, maxRegions};
-ghost use Rattle.card_file.specs.Answers.{ReadCard, cardAnswer, refusedCard};
+ghost use Rattle.card_file.specs.Answers.{ReadCard, listed, cardAnswer, refusedCard};
 ghost use Rattle.card_file.specs.Unused.{RestIsBlank};
 use crate::fields::HEAD_LENGTH;
 use crate::fields::body_at;
@@ -44,8 +45,10 @@ pub struct Card {
 
 // The card of a whole file. Refused, front to back: a field cut short (11), a tag unknown or out of place (9), the 65th circle (1) or
 // the 2,049th region (2), a wrong length (10); then a centre (3), a radius (4), masks that do not rise (5), the factor (6), two circles of one ink (14).
+// The file of the card is the very file that was read.
 pub fn read_card(file: &[u8]) -> Card
     ensures answer { λ r. ⌜ cardAnswer r ≡ readCard (now (file .entry)) ⌝ }
+    ensures again { λ r. ⌜ (r .refusal ≡ 0 → fileOf (listed (r .factor) (r .n) (r .circles) (r .m) (r .masks) (r .patterns) (r .areas)) ≡ now (file .entry)) ⌝ }
     ensures rest { λ r. ⌜ RestIsBlank r ⌝ }
 {
     let card = read_file(file);

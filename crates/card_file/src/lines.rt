@@ -1,14 +1,17 @@
 // The text that program `card` prints, as bytes.
 ghost use mathlib.Core.Path.{_≡_};
-ghost use mathlib.Core.List.{[], _∷_, _++_};
+ghost use mathlib.Core.List.{_++_};
 ghost use Prim.Native.Nat.{_+_, _*_, _/_, _%_, _^_, _≤_, _<_};
 ghost use lib.ListN.{length};
 ghost use Rattle.scope.specs.Text.{bytes};
 ghost use Rattle.scope.specs.Print.{decimal, hexDigit, sixteenDigits, float, line, printed, refusedText};
 ghost use Rattle.intake.specs.Limits.{maxCircles};
-ghost use Rattle.card_file.specs.Texts.{maxText, IsText, Put, NoneAbove, linesOf, linesRoom, layoutOf};
+ghost use Rattle.card_file.specs.Texts.{IsText, NoneAbove, linesOf, linesRoom, layoutOf};
+ghost use Rattle.card_file.specs.Puts.{Put};
 use crate::MAX_TEXT;
 use crate::Text;
+use crate::puts::put_byte;
+use crate::puts::put_bytes;
 use bits::bits_of;
 use intake::limits::MAX_CIRCLES;
 use shapes::circle::Circle;
@@ -48,8 +51,8 @@ pub(crate) fn printed(
 // ---- lines
 
 // Circle, cluster, x, y, radius, ink.
-fn put_line(out: &mut [u8; MAX_TEXT], at: usize, i: usize, cluster: u8, c: Circle) -> usize
-    requires { ⌜ (i < maxCircles) × (cluster ≤ i) × (at + 63 ≤ maxText) ⌝ }
+fn put_line(out: &mut [u8], at: usize, i: usize, cluster: u8, c: Circle) -> usize
+    requires { ⌜ (i < maxCircles) × (cluster ≤ i) × (at + 63 ≤ length (now out)) ⌝ }
     ensures { λ r. ⌜ Put (line i cluster c) at (now (out .entry)) r (now (out .exit)) × (r ≤ at + 63) × (i < 10 → r ≤ at + 61) ⌝ }
 {
     let center = c.center;
@@ -62,13 +65,13 @@ fn put_line(out: &mut [u8; MAX_TEXT], at: usize, i: usize, cluster: u8, c: Circl
 }
 
 fn put_lines(
-    out: &mut [u8; MAX_TEXT],
+    out: &mut [u8],
     at: usize,
     circles: [Circle; MAX_CIRCLES],
     n: usize,
     numbers: [u8; MAX_CIRCLES],
 ) -> usize
-    requires { ⌜ (n ≤ maxCircles) × NoneAbove n numbers × (at + linesRoom maxCircles ≤ maxText) ⌝ }
+    requires { ⌜ (n ≤ maxCircles) × NoneAbove n numbers × (at + linesRoom maxCircles ≤ length (now out)) ⌝ }
     ensures { λ r. ⌜ Put (linesOf circles numbers n) at (now (out .entry)) r (now (out .exit)) × (r ≤ at + linesRoom maxCircles) ⌝ }
 {
     let mut next = at;
@@ -84,8 +87,8 @@ fn put_lines(
 // ---- parts of a line
 
 // A word and a number in decimal, of at most 5 digits.
-fn put_count(out: &mut [u8; MAX_TEXT], at: usize, word: &[u8], n: u64) -> usize
-    requires { ⌜ (n < 100000) × (at + length (now word) + 5 ≤ maxText) ⌝ }
+fn put_count(out: &mut [u8], at: usize, word: &[u8], n: u64) -> usize
+    requires { ⌜ (n < 100000) × (at + length (now word) + 5 ≤ length (now out)) ⌝ }
     ensures { λ r. ⌜ Put (now (word .entry) ++ decimal n) at (now (out .entry)) r (now (out .exit)) × (r ≤ at + length (now (word .entry)) + 5) ⌝ }
 {
     let next = put_bytes(out, at, word);
@@ -93,8 +96,8 @@ fn put_count(out: &mut [u8; MAX_TEXT], at: usize, word: &[u8], n: u64) -> usize
 }
 
 // A word and a number in sixteen digits.
-fn put_digits(out: &mut [u8; MAX_TEXT], at: usize, word: &[u8], n: u64) -> usize
-    requires { ⌜ at + length (now word) + 16 ≤ maxText ⌝ }
+fn put_digits(out: &mut [u8], at: usize, word: &[u8], n: u64) -> usize
+    requires { ⌜ at + length (now word) + 16 ≤ length (now out) ⌝ }
     ensures { λ r. ⌜ Put (now (word .entry) ++ sixteenDigits n) at (now (out .entry)) r (now (out .exit)) × (r ≡ at + length (now (word .entry)) + 16) ⌝ }
 {
     let next = put_bytes(out, at, word);
@@ -102,16 +105,16 @@ fn put_digits(out: &mut [u8; MAX_TEXT], at: usize, word: &[u8], n: u64) -> usize
 }
 
 // A space and a float. Either zero is sixteen 0s.
-fn put_float(out: &mut [u8; MAX_TEXT], at: usize, x: f64) -> usize
-    requires { ⌜ at + 17 ≤ maxText ⌝ }
+fn put_float(out: &mut [u8], at: usize, x: f64) -> usize
+    requires { ⌜ at + 17 ≤ length (now out) ⌝ }
     ensures { λ r. ⌜ Put (bytes " " ++ float x) at (now (out .entry)) r (now (out .exit)) × (r ≡ at + 17) ⌝ }
 {
     put_digits(out, at, b" ", bits_of(x))
 }
 
 // Two numbers of at most 2 digits each, the second not above the first, with a space between them.
-fn put_pair(out: &mut [u8; MAX_TEXT], at: usize, a: u64, b: u64) -> usize
-    requires { ⌜ (a < 100) × (b ≤ a) × (at + 5 ≤ maxText) ⌝ }
+fn put_pair(out: &mut [u8], at: usize, a: u64, b: u64) -> usize
+    requires { ⌜ (a < 100) × (b ≤ a) × (at + 5 ≤ length (now out)) ⌝ }
     ensures { λ r. ⌜ Put (decimal a ++ bytes " " ++ decimal b) at (now (out .entry)) r (now (out .exit)) × (r ≤ at + 5) × (a < 10 → r ≤ at + 3) ⌝ }
 {
     let first = put_decimal(out, at, a);
@@ -122,8 +125,8 @@ fn put_pair(out: &mut [u8; MAX_TEXT], at: usize, a: u64, b: u64) -> usize
 // ---- numbers
 
 // A number in decimal: the digits before its last, if there are any, and the last.
-fn put_decimal(out: &mut [u8; MAX_TEXT], at: usize, n: u64) -> usize
-    requires { ⌜ at + length (decimal n) ≤ maxText ⌝ }
+fn put_decimal(out: &mut [u8], at: usize, n: u64) -> usize
+    requires { ⌜ at + length (decimal n) ≤ length (now out) ⌝ }
     ensures { λ r. ⌜ Put (decimal n) at (now (out .entry)) r (now (out .exit)) ⌝ }
 {
     let digit = decimal_digit(n % 10);
@@ -142,8 +145,8 @@ fn decimal_digit(d: u64) -> u8
 }
 
 // Sixteen hexadecimal digits, the highest first.
-fn put_sixteen(out: &mut [u8; MAX_TEXT], at: usize, n: u64) -> usize
-    requires { ⌜ at + 16 ≤ maxText ⌝ }
+fn put_sixteen(out: &mut [u8], at: usize, n: u64) -> usize
+    requires { ⌜ at + 16 ≤ length (now out) ⌝ }
     ensures { λ r. ⌜ Put (sixteenDigits n) at (now (out .entry)) r (now (out .exit)) × (r ≡ at + 16) ⌝ }
 {
     let mut next = at;
@@ -173,29 +176,4 @@ fn hexadecimal_digit(d: u64) -> u8
         return 48 + d as u8;
     }
     87 + d as u8
-}
-
-// ---- bytes
-
-// One byte behind the text that ends at a place, and the place behind it.
-fn put_byte(out: &mut [u8; MAX_TEXT], at: usize, byte: u8) -> usize
-    requires { ⌜ at < maxText ⌝ }
-    ensures { λ r. ⌜ Put (byte ∷ []) at (now (out .entry)) r (now (out .exit)) ⌝ }
-{
-    out[at] = byte;
-    at + 1
-}
-
-fn put_bytes(out: &mut [u8; MAX_TEXT], at: usize, bytes: &[u8]) -> usize
-    requires { ⌜ at + length (now bytes) ≤ maxText ⌝ }
-    ensures { λ r. ⌜ Put (now (bytes .entry)) at (now (out .entry)) r (now (out .exit)) ⌝ }
-{
-    let mut next = at;
-    let mut i: usize = 0;
-    while i < bytes.len() {
-        let after = put_byte(out, next, bytes[i]);
-        next = after;
-        i += 1;
-    }
-    next
 }

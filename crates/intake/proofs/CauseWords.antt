@@ -38,10 +38,14 @@ bit-none : (k : ℕ) → bit 0 k ≡ false
 bit-none k = is-false (bit 0 k) (bit-past 0 k (pow-pos k))
 
 -- ---- one cause
-pub one-cause : (j : ℕ) (b : Bool) (w : ℕ) → w ≡ cond b (2 ^ j) 0 → Says w ((j, b) ∷ [])
+pub one-cause : (j : ℕ) (b : Bool) {w : ℕ} → w ≡ cond b (2 ^ j) 0 → Says w ((j, b) ∷ [])
 unfolding causeHolds
-one-cause j true w e k = rw e (bit-power j k ∙ sym (or-false _ ∙ and-true (eqb j k)))
-one-cause j false w e k = rw e (bit-none k ∙ sym (or-false _ ∙ and-false (eqb j k)))
+one-cause j true e k = rw e (bit-power j k ∙ sym (or-false _ ∙ and-true (eqb j k)))
+one-cause j false e k = rw e (bit-none k ∙ sym (or-false _ ∙ and-false (eqb j k)))
+
+-- by what the flag and the test behind it ensure
+pub flagged : (j : ℕ) {holds test : Bool} {w : ℕ} → w ≡ cond holds (2 ^ j) 0 → holds ≡ test → Says w ((j, test) ∷ [])
+flagged j {test} flag e = one-cause j test (flag ∙ rw e)
 
 -- ---- words joined
 holds-append : (cs ds : Checks) (k : ℕ) → causeHolds (cs ++ ds) k ≡ causeHolds cs k || causeHolds ds k
@@ -81,6 +85,13 @@ pub layout-checks : (a b c d e f g h : Bool)
     ≡ refusal ((1, a) ∷ (13, d) ∷ (2, e) ∷ (3, b) ∷ (4, c) ∷ (5, f) ∷ (6, g) ∷ (14, h) ∷ [])
 unfolding refusal first causeHolds causes
 layout-checks a b c d e f g h = refl
+
+-- and with an output's
+pub writer-checks : (a b c d e f g h s : Bool)
+    → refusal ((1, a) ∷ (3, b) ∷ (4, c) ∷ (14, h) ∷ (13, d) ∷ (2, e) ∷ (5, f) ∷ (6, g) ∷ (15, s) ∷ [])
+    ≡ refusal ((1, a) ∷ (13, d) ∷ (2, e) ∷ (3, b) ∷ (4, c) ∷ (5, f) ∷ (6, g) ∷ (14, h) ∷ (15, s) ∷ [])
+unfolding refusal first causeHolds causes
+writer-checks a b c d e f g h s = refl
 
 -- ---- the search for it, cause by cause
 small : ℕ → ℕ → Bool

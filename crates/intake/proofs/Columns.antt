@@ -1,12 +1,11 @@
 -- The circles that lists of numbers show: their count, each of them, and when they are those of a definition by `tab`; with inks put on. Lists that were changed
 -- number by number.
-use Prim.Native.Nat.{ℕ, suc, _+_, _≤_, _<_, min}
+use Prim.Native.Nat.{ℕ, suc, _≤_, _<_, min}
 use native.Mathlib.Decide.{decLt}
-use native.Mathlib.Numerals.{add-one}
 use native.Mathlib.Omega.{arith}
 use mathlib.Core.Path.{_≡_, refl, sym, ap, _∙_}
-use mathlib.Core.Logic.{_⊎_, inl, inr, ⊎-elim}
-use mathlib.Core.Bool.{Bool, true, false, not, cond, _&&_, _||_, or-true, or-false}
+use mathlib.Core.Logic.{inl, inr, ⊎-elim}
+use mathlib.Core.Bool.{Bool, true, false, not, cond, _&&_, _||_}
 use mathlib.Core.List.{List, append-nil}
 use lib.ListN.{length, getD, take, drop, length-take}
 use lib.Seq.{take-length, drop-length, length-take-le, drop-cons, getD-at, take-all, ext-getD}
@@ -15,7 +14,7 @@ use lib.Ieee.{Float, nan}
 use Rattle.shapes.specs.declared.circle.Circle.{Circle}
 use Rattle.shapes.specs.declared.rectangle.Rectangle.{Rectangle}
 use Rattle.scope.specs.Numbers.{_+ᶠ_}
-use Rattle.scope.specs.Runs.{tab, any, someBelow}
+use Rattle.scope.specs.Runs.{tab, any}
 use Rattle.scope.specs.Limits.{coordinateOk, radiusOk}
 use Rattle.scope.specs.Links.{circle, nowhere}
 use Rattle.scope.specs.Refusals.{badPoint, badCentre, badRadius, repeated, inks, sameInk}
@@ -26,7 +25,7 @@ use Rattle.laws.specs.Inks.{withInk, inked}
 use Rattle.laws.proofs.Accepted.{ink-at}
 use Rattle.laws.proofs.Inks.{length-inked, inked-at, inks-inked}
 use Rattle.laws.proofs.Cases.{or-iff}
-use Rattle.laws.proofs.Runs.{length-tab, getD-tab, tab-equal, any-at, someBelow-iff}
+use Rattle.laws.proofs.Runs.{length-tab, getD-tab, tab-equal, any-at}
 use Rattle.intake.specs.Limits.{maxCircles}
 use Rattle.intake.specs.Columns.{at, bareCircle, circlesOf, xsOf, ysOf, radiiOf, widthsOf, heightsOf, each, members, Lifted}
 use Rattle.intake.specs.CauseWords.{bareFront, front}
@@ -131,20 +130,6 @@ same-truth true true f g = refl
 same-truth true false f g = absurd (f tt)
 same-truth false true f g = absurd (g tt)
 same-truth false false f g = refl
-
-pub any-below : {A : Type 0} (p : A → Bool) (l : List A) (d : A) → any p l ≡ someBelow (length l) (λ i. p (getD l i d))
-any-below p l d = same-truth _ _ (λ t. someBelow-iff (length l) (λ i. p (getD l i d)) .1 (any-at p l d .0 t)) (λ t. any-at p l d .1 (someBelow-iff (length l) (λ i. p (getD l i d)) .0 t))
-
--- a flag that a turn sets where a test holds, and else leaves
-abbrev pub Flag : Bool → Bool → Bool → Type 0
-Flag test before after = ((test ≡ true) × (after ≡ true)) ⊎ ((test ≡ false) × (after ≡ before))
-
-pub flag-is : {test after : Bool} (before : Bool) → Flag test before after → after ≡ before || test
-flag-is before = ⊎-elim (λ w. w .1 ∙ rw (w .0) (sym (or-true before))) (λ w. w .1 ∙ rw (w .0) (sym (or-false before)))
-
-pub flagged : (p : ℕ → Bool) (i : ℕ) {after : Bool} (before : Bool) → before ≡ someBelow i p → Flag (p i) before after → after ≡ someBelow (i + 1) p
-unfolding someBelow
-flagged p i before e came = rw (add-one, ← e) (flag-is before came)
 
 -- what fails at the same places of two lists
 any-same : {A B : Type 0} (p : A → Bool) (q : B → Bool) (l : List A) (m : List B) (d : A) (e : B) → length l ≡ length m

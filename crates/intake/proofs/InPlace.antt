@@ -3,7 +3,6 @@ use Prim.Native.Nat.{ℕ, zero, suc, _+_, _<_, _≤_}
 use native.Mathlib.Omega.{arith}
 use native.Mathlib.Numerals.{add-one}
 use mathlib.Core.Path.{_≡_, refl, sym, ap, _∙_}
-use mathlib.Core.Bool.{Bool, true, false, cond}
 use mathlib.Core.List.{List, [], _∷_, _++_}
 use lib.ListN.{length, getD, set, take, drop}
 use lib.Seq.{length-take-le, getD-take}
@@ -79,7 +78,3 @@ module _ {A : Type 0} where
         let all : i ≡ n = omega arith in
         let first = tab-equal n (λ k. g k (getD l k d)) (λ k. g k (getD (take n l) k d)) (λ k hk. ap (g k) (sym (getD-take n l k d hk))) in
         e ∙ rw (all, take-tab n (length l) (λ k. g k (getD l k d)) h, length-take-le n l h) (ap {B = List A} (λ k. k ++ drop n l) first)
-
-  pub either-length : (b : Bool) (n : ℕ) (xs ys : List A) → length xs ≡ n → length ys ≡ n → length (cond b xs ys) ≡ n
-  either-length true n xs ys e f = e
-  either-length false n xs ys e f = f

@@ -3,9 +3,11 @@ pub mod TrailingZeros
 pub mod Rising
 pub mod Overwriting
 pub mod InPlace
+pub mod SoFar
 pub mod Columns
 pub mod CauseWords
 pub mod Lending
+pub mod Turns
 pub mod NumberArrays
 pub mod TakenCalls
 pub mod Splitting

@@ -3,6 +3,7 @@ use Prim.Native.Nat.{ℕ}
 use mathlib.Core.Path.{_≡_}
 use mathlib.Core.Bool.{not}
 use mathlib.Core.List.{List, [], _∷_}
+use lib.Dec.{eqb}
 use lib.ListN.{length, take}
 use lib.Ieee.{Float}
 use Rattle.shapes.specs.declared.circle.Circle.{Circle}
@@ -26,6 +27,10 @@ front n xs ys rs is = inked (take n is) (bareFront n xs ys rs)
 abbrev pub circleChecks : ℕ → List Float → List Float → List Float → List ℕ → Checks
 circleChecks n xs ys rs is =
     (1, tooMany n) ∷ (3, any badCentre (front n xs ys rs is)) ∷ (4, any badRadius (front n xs ys rs is)) ∷ (14, sameInk (front n xs ys rs is)) ∷ []
+
+-- what a call checks of the masks, beside which another list has so many entries
+abbrev pub maskChecks : List ℕ → ℕ → Checks
+maskChecks masks others = (13, not (eqb (length masks) others)) ∷ (2, tooManyRegions (length masks)) ∷ (5, not (rising masks)) ∷ []
 
 -- what a call checks of the lists of regions
 abbrev pub regionChecks : List ℕ → List Float → Checks

@@ -8,7 +8,7 @@ ghost use lib.ListN.{length};
 ghost use Rattle.scope.specs.Runs.{any, bit};
 ghost use Rattle.scope.specs.Limits.{within, coordinateOk, radiusOk, sideOk};
 ghost use Rattle.scope.specs.Refusals.{causes, first, tooMany, rising, badPoint, badCentre, badRadius, badFactor, badSide, badPadding, repeated};
-ghost use Rattle.intake.specs.CauseWords.{Says, circleChecks, regionChecks};
+ghost use Rattle.intake.specs.CauseWords.{Says, circleChecks, maskChecks, regionChecks};
 ghost use Rattle.intake.specs.Limits.{maxCircles};
 use crate::limits::MAX_CIRCLES;
 use crate::limits::MAX_COORDINATE;
@@ -27,7 +27,7 @@ use shapes::point::Point;
 use shapes::rectangle::Rectangle;
 
 // Document 01's order: 13 goes before 2. The numbers of later requests are appended.
-const ORDER: [u8; 14] = [1, 13, 2, 3, 4, 5, 6, 7, 8, 9, 10, 11, 12, 14];
+const ORDER: [u8; 15] = [1, 13, 2, 3, 4, 5, 6, 7, 8, 9, 10, 11, 12, 14, 15];
 
 // The first cause of a word in that order, 0 where none holds.
 pub fn number_of(word: u32) -> u8
@@ -35,7 +35,7 @@ pub fn number_of(word: u32) -> u8
 {
     let order = ORDER;
     let mut i: usize = 0;
-    while i < 14 {
+    while i < 15 {
         let k = order[i];
         if has(word, k) {
             return k;
@@ -70,7 +70,14 @@ pub fn of_count(n: usize) -> u32
 pub fn of_regions(masks: &[u64], areas: &[f64]) -> u32
     ensures { λ r. ⌜ Says r (regionChecks (now (masks .entry)) (now (areas .entry))) ⌝ }
 {
-    flag(masks.len() != areas.len(), 8192)
+    of_masks(masks, areas.len())
+}
+
+// 13, 2, 5, where the list beside the masks has so many entries
+pub fn of_masks(masks: &[u64], others: usize) -> u32
+    ensures { λ r. ⌜ Says r (maskChecks (now (masks .entry)) others) ⌝ }
+{
+    flag(masks.len() != others, 8192)
         | flag(too_many_regions(masks.len()), 4)
         | flag(!is_rising(masks), 32)
 }
@@ -132,6 +139,13 @@ pub fn of_padding(x: f64) -> u32
     flag(bad_padding(x), 256)
 }
 
+// 15, of a lent output
+pub fn of_output(short: bool) -> u32
+    ensures { λ r. ⌜ Says r ((15, short) ∷ []) ⌝ }
+{
+    flag(short, 32768)
+}
+
 // 3, of any number of a list
 fn of_coordinates(list: &[f64]) -> u32
     ensures { λ r. ⌜ Says r ((3, any (λ x. not (coordinateOk x)) (now (list .entry))) ∷ []) ⌝ }
@@ -176,6 +190,7 @@ pub fn of_circles(
     of_lists(xs, ys, radii, inks, n)
 }
 
+// The same of four lists of that length.
 fn of_lists(xs: &[f64], ys: &[f64], radii: &[f64], inks: &[u16], n: usize) -> u32
     requires { ⌜ (length (now xs) ≡ maxCircles) × (length (now ys) ≡ maxCircles) × (length (now radii) ≡ maxCircles) × (length (now inks) ≡ maxCircles) ⌝ }
     ensures { λ r. ⌜ Says r (circleChecks n (now (xs .entry)) (now (ys .entry)) (now (radii .entry)) (now (inks .entry))) ⌝ }

@@ -4,7 +4,7 @@ use native.Mathlib.Omega.{arith}
 use mathlib.Core.Path.{_≡_, refl}
 use mathlib.Core.Logic.{_≢_}
 use mathlib.Core.List.{List, []}
-use lib.ListN.{getD, drop}
+use lib.ListN.{length, getD, drop}
 use lib.Ieee.{Float, binary64}
 use borrow.Author.Tests.{eq-eqb, ne-eqb}
 use Rattle.rounding.specs.Root.{root}
@@ -13,14 +13,16 @@ use Rattle.shapes.specs.declared.circle.Circle.{Circle}
 use Rattle.shapes.specs.declared.rectangle.Rectangle.{Rectangle}
 use Rattle.scope.specs.Numbers.{golden}
 use Rattle.scope.specs.Runs.{filled}
-use Rattle.scope.specs.Refusals.{refused, given, answer, pointsRefusal, pairRefusal, circlePointRefusal, circlesRefusal, regionsRefusal, columnsRefusal, packRefusal, containerRefusal, layoutRefusal}
+use Rattle.scope.specs.Refusals.{refused, given, answer, pointsRefusal, pairRefusal, circlePointRefusal, circlesRefusal, regionsRefusal, columnsRefusal, packRefusal, containerRefusal, layoutRefusal, writerRefusal, textRefusal}
 use Rattle.scope.specs.Distance.{rootRefusal, rootAnswer, distance, distanceAnswer, circleDistance, circleDistanceAnswer, contains, containsAnswer, containsPoint, containsPointAnswer, intersects, intersectsAnswer}
 use Rattle.scope.specs.Links.{regions}
 use Rattle.scope.specs.Groups.{Clusters, Grouping, clusters, plainClusters, refusedGrouping, acceptedGrouping, grouping, areaGrouping, plainGrouping}
 use Rattle.scope.specs.Packing.{Packing, columns, columnsAnswer, packed, refusedPacking, acceptedPacking, packing, skylinePack}
 use Rattle.scope.specs.Container.{Contained, settled, refusedContainer, containedAnswer, contained}
 use Rattle.scope.specs.Layout.{Layout, arranged, refusedLayout, ifAccepted, layout}
-use Rattle.scope.specs.CardFile.{tag, body, fieldOf, fieldRefusal, readField, fieldBody}
+use Rattle.scope.specs.CardFile.{tag, body, fieldOf, fieldRefusal, readField, fieldBody, Card}
+use Rattle.scope.specs.Print.{cardText}
+use Rattle.scope.specs.Saving.{Saved, refusedSaving, acceptedSaving, saving, fileOf, writeCard, writeText}
 use Rattle.laws.specs.Answers.{Answers, refusalOf}
 use Rattle.laws.proofs.Runs.{getD-filled-any}
 
@@ -122,3 +124,23 @@ unfolding layout ifAccepted arranged refusedLayout
 layout-answers cs factor masks areas =
     by-number (λ l. l .result .refusal) (λ k. refusedLayout k cs) (λ k. ifAccepted k cs (arranged golden cs factor (regions masks areas))) refl (λ k. refl) (λ k. refl)
     (layoutRefusal cs factor masks areas)
+
+-- ---- saved: nothing written, the lent list as it was
+
+pub saving-answers : (number : ℕ) (bytes out : List ℕ)
+    → Answers (λ (s : Saved). s .refusal) number (saving number bytes out) (refusedSaving out) (acceptedSaving bytes out)
+unfolding saving
+saving-answers number bytes out = by-number (λ s. s .refusal) (refusedSaving out) (λ k. saving k bytes out) refl (λ k. refl) (λ k. refl) number
+
+pub write-card-answers : (card : Card) (out : List ℕ)
+    → Answers (λ (s : Saved). s .refusal)
+    (writerRefusal (card .circles) (card .factor) (card .masks) (card .areas) (length out) (length (fileOf card))) (writeCard card out)
+    (refusedSaving out) (acceptedSaving (fileOf card) out)
+unfolding writeCard
+write-card-answers card out = saving-answers _ (fileOf card) out
+
+pub write-text-answers : (input out : List ℕ)
+    → Answers (λ (s : Saved). s .refusal) (textRefusal (length out) (length (cardText input))) (writeText input out) (refusedSaving out)
+    (acceptedSaving (cardText input) out)
+unfolding writeText
+write-text-answers input out = saving-answers _ (cardText input) out

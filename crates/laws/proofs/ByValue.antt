@@ -5,7 +5,7 @@ use native.Mathlib.Nat.{min-le-left}
 use native.Mathlib.Omega.{arith}
 use mathlib.Core.Path.{_≡_, refl, ap, _∙_}
 use mathlib.Core.Bool.{Bool, true, false, cond}
-use mathlib.Core.List.{List, _∷_}
+use mathlib.Core.List.{List, _∷_, map}
 use lib.ListN.{take, length, length-take, take-append-drop}
 use lib.Ieee.{Float}
 use Rattle.shapes.specs.declared.circle.Circle.{Circle}
@@ -17,16 +17,18 @@ use Rattle.scope.specs.Groups.{Grouping, plainClusters, refusedGrouping, accept
 use Rattle.scope.specs.Packing.{Packing, packed, refusedPacking, acceptedPacking}
 use Rattle.scope.specs.Container.{Contained, settled, refusedContainer}
 use Rattle.scope.specs.Layout.{Layout, arranged, refusedLayout}
-use Rattle.scope.specs.Twins.{countedGrouping, firstGrouping, firstPacking, withOthers, firstLayout, withRest, firstContained}
+use Rattle.scope.specs.CardFile.{floatOf}
+use Rattle.scope.specs.Saving.{Saved, refusedSaving, acceptedSaving, fileOf, cardOf}
+use Rattle.scope.specs.Twins.{countedGrouping, firstGrouping, firstPacking, withOthers, firstLayout, withRest, firstContained, firstWritten}
 use Rattle.laws.specs.BothWays.{Reads}
 use Rattle.laws.specs.Answers.{Answers}
-use Rattle.laws.specs.ByValue.{firstCirclesChecks, firstPackChecks, firstContainerChecks, firstLayoutChecks}
+use Rattle.laws.specs.ByValue.{firstCirclesChecks, firstPackChecks, firstContainerChecks, firstLayoutChecks, firstWriterChecks}
 use Rattle.laws.proofs.Cases.{is-false}
 use Rattle.laws.proofs.Accepted.{not-too-many-iff}
 use Rattle.laws.proofs.Counted.{few, by-many}
 use Rattle.laws.proofs.FrontToBack.{front-to-back-reads}
-use Rattle.laws.proofs.EntryPoints.{circles-reads, pack-reads, container-reads, layout-reads}
-use Rattle.laws.proofs.AfterRefusal.{plain-grouping-answers, packing-answers, container-answers, layout-answers}
+use Rattle.laws.proofs.EntryPoints.{circles-reads, pack-reads, container-reads, layout-reads, writer-reads}
+use Rattle.laws.proofs.AfterRefusal.{plain-grouping-answers, packing-answers, container-answers, layout-answers, write-card-answers}
 
 module _ {A : Type 0} {numberOf : A → ℕ} {refuse : ℕ → A} where
   -- a count that is too large before a call
@@ -110,3 +112,18 @@ module _ (n : ℕ) (cs : List Circle) (factor : Float) (masks : List ℕ) (areas
 
   pub first-layout-reads : Reads (firstLayout n cs factor masks areas .result .refusal) (firstLayoutChecks n cs factor masks areas)
   first-layout-reads = rw (first-layout-answers .says) (front-to-back-reads _ tt)
+
+-- ---- saved: nothing written, the lent list as it was
+
+module _ (n : ℕ) (cs : List Circle) (factor : Float) (masks patterns out : List ℕ) where
+  pub first-written-answers :
+      Answers (λ (s : Saved). s .refusal) (frontToBack (firstWriterChecks n cs factor masks patterns out)) (firstWritten n cs factor masks patterns out)
+      (refusedSaving out) (acceptedSaving (fileOf (cardOf factor (take n cs) masks patterns)) out)
+  unfolding firstWritten
+  first-written-answers =
+      let card = cardOf factor (take n cs) masks patterns in
+      counted n _ _ (first-few n cs) (λ k. refl)
+      (rw (writer-reads (take n cs) factor masks (map floatOf patterns) (length out) (length (fileOf card)) .runs) at (write-card-answers card out))
+
+  pub first-written-reads : Reads (firstWritten n cs factor masks patterns out .refusal) (firstWriterChecks n cs factor masks patterns out)
+  first-written-reads = rw (first-written-answers .says) (front-to-back-reads _ tt)

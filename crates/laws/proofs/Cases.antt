@@ -1,9 +1,9 @@
--- Tests read as statements: what `||`, `&&` and `not` say of T.
+-- Tests read as statements: what `||`, `&&` and `not` say of T. What a test chooses.
 use Prim.Native.Nat.{ℕ, _≤_}
 use native.Mathlib.Nat.{not-le-of-lt}
 use mathlib.Core.Path.{_≡_, refl, subst}
 use mathlib.Core.Logic.{_↔_, _⊎_, inl, inr, ⊎-elim}
-use mathlib.Core.Bool.{Bool, true, false, not, _&&_, _||_}
+use mathlib.Core.Bool.{Bool, true, false, not, cond, _&&_, _||_}
 use lib.Dec.{T, eqb, ltb, eqb→eq, eqb-refl, ltb→lt, nltb→le}
 
 pub or-iff : (a b : Bool) → T (a || b) ↔ (T a ⊎ T b)
@@ -42,3 +42,8 @@ is-true false h = absurd h
 pub is-false : (b : Bool) → ¬ T b → b ≡ false
 is-false true h = absurd (h tt)
 is-false false h = refl
+
+-- a choice is read field by field
+pub chosen : {A B : Type 0} (f : A → B) (b : Bool) (x y : A) → f (cond b x y) ≡ cond b (f x) (f y)
+chosen f true x y = refl
+chosen f false x y = refl

@@ -2,7 +2,7 @@
 use Prim.Native.Nat.{ℕ, _≤_}
 use native.Mathlib.Omega.{arith}
 use mathlib.Core.Path.{_≡_, refl, sym, _∙_, ap}
-use mathlib.Core.Bool.{Bool, true, false, cond}
+use mathlib.Core.Bool.{Bool, true, false}
 use mathlib.Core.List.{List, _∷_}
 use borrow.Author.Tests.{ltb-false}
 use Rattle.scope.specs.Limits.{circleCap}
@@ -19,11 +19,6 @@ by-many {P} n many few = by-test (tooMany n) refl
     by-test : (b : Bool) → tooMany n ≡ b → P
     by-test true h = many h
     by-test false h = few h
-
--- a choice is read field by field
-pub chosen : {A B : Type 0} (f : A → B) (b : Bool) (x y : A) → f (cond b x y) ≡ cond b (f x) (f y)
-chosen f true x y = refl
-chosen f false x y = refl
 
 -- a number 0 is not that of too many
 pub none-counted : (n k : ℕ) → unlessMany n 1 k ≡ 0 → (tooMany n ≡ false) × (n ≤ circleCap) × (k ≡ 0)

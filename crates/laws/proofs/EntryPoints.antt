@@ -12,7 +12,7 @@ use Rattle.shapes.specs.declared.circle.Circle.{Circle}
 use Rattle.shapes.specs.declared.rectangle.Rectangle.{Rectangle}
 use Rattle.scope.specs.Runs.{any}
 use Rattle.scope.specs.Limits.{circleCap}
-use Rattle.scope.specs.Refusals.{causes, causeHolds, first, refusal, frontToBack, tooMany, unequal, tooManyRegions, badPoint, badCentre, badRadius, rising, badFactor, badSide, badPadding, sameInk, pointsRefusal, pairRefusal, circlePointRefusal, circlesRefusal, regionsRefusal, columnsRefusal, packRefusal, containerRefusal, layoutRefusal}
+use Rattle.scope.specs.Refusals.{causes, causeHolds, first, refusal, frontToBack, tooMany, unequal, tooManyRegions, badPoint, badCentre, badRadius, rising, badFactor, badSide, badPadding, sameInk, pointsRefusal, pairRefusal, circlePointRefusal, circlesRefusal, regionsRefusal, columnsRefusal, packRefusal, containerRefusal, layoutRefusal, tooShort, writerRefusal, textRefusal}
 use Rattle.scope.specs.Distance.{noRoot, rootRefusal}
 use Rattle.scope.specs.CardFile.{Card, tag, headCut, bodyCut, unknown, wrongLength, misplaced, fieldRefusal, firstRefusal, nextRefusal}
 use Rattle.laws.specs.BothWays.{Reads}
@@ -64,6 +64,17 @@ pub layout-reads : (cs : List Circle) (factor : Float) (masks : List ℕ) (areas
     ∷ (5, not (rising masks)) ∷ (6, badFactor factor) ∷ (14, sameInk cs) ∷ [])
 unfolding layoutRefusal refusal first causeHolds causes frontToBack
 layout-reads cs factor masks areas = as-front-to-back _ tt (simp or-false)
+
+pub writer-reads : (cs : List Circle) (factor : Float) (masks : List ℕ) (areas : List Float) (room size : ℕ)
+    → Reads (writerRefusal cs factor masks areas room size)
+    ((1, tooMany (length cs)) ∷ (13, unequal masks areas) ∷ (2, tooManyRegions (length masks)) ∷ (3, any badCentre cs) ∷ (4, any badRadius cs)
+    ∷ (5, not (rising masks)) ∷ (6, badFactor factor) ∷ (14, sameInk cs) ∷ (15, tooShort room size) ∷ [])
+unfolding writerRefusal refusal first causeHolds causes frontToBack
+writer-reads cs factor masks areas room size = as-front-to-back _ tt (simp or-false)
+
+pub text-reads : (room size : ℕ) → Reads (textRefusal room size) ((15, tooShort room size) ∷ [])
+unfolding textRefusal refusal first causeHolds causes frontToBack
+text-reads room size = as-front-to-back _ tt (simp or-false)
 
 -- ---- the card file: each call's checks run front to back as they stand
 

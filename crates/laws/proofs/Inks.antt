@@ -17,7 +17,7 @@ use Rattle.shapes.specs.declared.rectangle.Rectangle.{Rectangle}
 use Rattle.shapes.specs.Lift.{movedTo}
 use Rattle.shapes.specs.Boxes.{unionOf, circleBox}
 use Rattle.scope.specs.Numbers.{_-ᶠ_, _*ᶠ_, _<ᶠ_, _≤ᶠ_, nought, half, e-12, abs}
-use Rattle.scope.specs.Runs.{tab, inTurn, least, someBelow, always}
+use Rattle.scope.specs.Runs.{tab, inTurn, least, always}
 use Rattle.scope.specs.Refusals.{inks}
 use Rattle.scope.specs.Distance.{contains, intersects}
 use Rattle.scope.specs.Links.{Region, circle, nowhere, overlap, linkedByCircles}
@@ -33,8 +33,9 @@ use Rattle.scope.specs.Container.{reachesPast, centredIn, settled}
 use Rattle.scope.specs.Layout.{Layout, arranged}
 use Rattle.laws.specs.Inks.{withInk, inked, Carries, CarriesAll, Blind}
 use Rattle.laws.specs.Limits.{WithinLimits}
+use Rattle.laws.proofs.Cases.{chosen}
 use Rattle.laws.proofs.Accepted.{length-inks, ink-at}
-use Rattle.laws.proofs.Runs.{length-tab, getD-tab, getD-tab-past, tab-equal, gather-equal}
+use Rattle.laws.proofs.Runs.{length-tab, getD-tab, getD-tab-past, tab-equal, gather-equal, some-below-equal}
 
 -- ---- circles with inks
 
@@ -137,11 +138,6 @@ unfolding shifted
 shifted-carries numbers old new is cs =
     each-carries (λ i c. shift (rectangle old (getD numbers i 0)) (rectangle new (getD numbers i 0)) c) (λ i. shift-carries _ _) is cs
 
--- one of two layouts, or the other
-pushed : {A B : Type 0} (f : A → B) (b : Bool) {x y : A} {u v : B} → u ≡ f x → v ≡ f y → cond b u v ≡ f (cond b x y)
-pushed f true e g = e
-pushed f false e g = g
-
 -- ---- the gauge
 
 pub turned-carries : (member : ℕ → Bool) (i j : ℕ) → CarriesAll (turned member i j)
@@ -149,8 +145,9 @@ unfolding turned
 turned-carries member i j is cs =
     let dx = circle cs j .center .x -ᶠ circle cs i .center .x in
     let dy = circle cs j .center .y -ᶠ circle cs i .center .y in
-    rw (centre-at is cs i, centre-at is cs j)
-    (pushed (inked is) (level dx dy) refl (changed-carries member (rotated (turn dx dy) (circle cs i .center)) (rotated-carries (turn dx dy) (circle cs i .center)) is cs))
+    let turning = rotated (turn dx dy) (circle cs i .center) in
+    rw (centre-at is cs i, centre-at is cs j, changed-carries member turning (rotated-carries (turn dx dy) (circle cs i .center)) is cs)
+    (sym (chosen (inked is) (level dx dy) cs (changed member turning cs)))
 
 centres-box-blind : (member : ℕ → Bool) → Blind (centresBox member)
 unfolding centresBox
@@ -161,11 +158,13 @@ centres-box-blind member is cs =
 
 pub mirroredX-carries : (member : ℕ → Bool) (i : ℕ) (m : Float) → CarriesAll (mirroredX member i m)
 unfolding mirroredX
-mirroredX-carries member i m is cs = rw (centre-at is cs i) (pushed (inked is) (m <ᶠ circle cs i .center .x) (changed-carries member (mirrorX m) (mirrorX-carries m) is cs) refl)
+mirroredX-carries member i m is cs =
+    rw (centre-at is cs i, changed-carries member (mirrorX m) (mirrorX-carries m) is cs) (sym (chosen (inked is) (m <ᶠ circle cs i .center .x) _ cs))
 
 pub mirroredY-carries : (member : ℕ → Bool) (i : ℕ) (m : Float) → CarriesAll (mirroredY member i m)
 unfolding mirroredY
-mirroredY-carries member i m is cs = rw (centre-at is cs i) (pushed (inked is) (m <ᶠ circle cs i .center .y) (changed-carries member (mirrorY m) (mirrorY-carries m) is cs) refl)
+mirroredY-carries member i m is cs =
+    rw (centre-at is cs i, changed-carries member (mirrorY m) (mirrorY-carries m) is cs) (sym (chosen (inked is) (m <ᶠ circle cs i .center .y) _ cs))
 
 pub mirrored-carries : (member : ℕ → Bool) (i : ℕ) → CarriesAll (mirrored member i)
 unfolding mirrored
@@ -178,7 +177,7 @@ rotate-carries member is cs =
     let n = length cs in
     let i = least n member in
     let j = least n (λ k. member k && not (eqb k i)) in
-    rw (length-inked is cs) (pushed (inked is) (ltb j n) (ap (mirrored member i) (turned-carries member i j is cs) ∙ mirrored-carries member i is (turned member i j cs)) refl)
+    rw (length-inked is cs, turned-carries member i j is cs, mirrored-carries member i is (turned member i j cs)) (sym (chosen (inked is) (ltb j n) _ cs))
 
 in-turn-carries : (n : ℕ) (step : ℕ → List Circle → List Circle) → ((a : ℕ) → CarriesAll (step a)) → CarriesAll (inTurn n step)
 unfolding inTurn
@@ -206,7 +205,7 @@ boxes-blind count numbers is cs =
 
 pub pack-carries : (proportion : Float) (numbers : List ℕ) (rects : List Rectangle) (pad : Float) → CarriesAll (packClusters proportion numbers rects pad)
 unfolding packClusters
-pack-carries proportion numbers rects pad is cs = pushed (inked is) (ltb (length rects) 2) refl (shifted-carries numbers rects (packed proportion rects pad) is cs)
+pack-carries proportion numbers rects pad is cs = rw (shifted-carries numbers rects (packed proportion rects pad) is cs) (sym (chosen (inked is) (ltb (length rects) 2) cs _))
 
 pub centred-carries : CarriesAll centredLayout
 unfolding centredLayout
@@ -220,15 +219,15 @@ centred-in-carries container is cs =
     let box = boxAll always cs in
     let dx = middleX box in
     let dy = middleY box in
-    rw (box-blind always is cs, length-inked is cs)
-    (pushed (inked is) (eqb (length cs) 0 || reachesPast container box || ((abs dx <ᶠ e-12) && (abs dy <ᶠ e-12))) refl (all-translated-carries (neg dx) (neg dy) is cs))
+    rw (box-blind always is cs, length-inked is cs, all-translated-carries (neg dx) (neg dy) is cs)
+    (sym (chosen (inked is) (eqb (length cs) 0 || reachesPast container box || ((abs dx <ᶠ e-12) && (abs dy <ᶠ e-12))) cs _))
 
 pub settled-carries : (container : Rectangle) → CarriesAll (λ cs. settled container cs .circles)
 unfolding settled
 settled-carries container is cs =
     let cx = container .center .x in
     let cy = container .center .y in
-    ap (centredIn _) (pushed (inked is) ((e-12 <ᶠ abs cx) || (e-12 <ᶠ abs cy)) (all-translated-carries (neg cx) (neg cy) is cs) refl) ∙ centred-in-carries _ is _
+    rw (all-translated-carries (neg cx) (neg cy) is cs, ← chosen (inked is) ((e-12 <ᶠ abs cx) || (e-12 <ᶠ abs cy)) (allTranslated (neg cx) (neg cy) cs) cs) (centred-in-carries _ is _)
 
 -- ---- the plain clustering
 
@@ -255,11 +254,6 @@ abbrev inkedChild : ℕ → Option Circle → Option Circle
 inkedChild k none = none
 inkedChild k (some c) = some (withInk k c)
 
-some-below-equal : (n : ℕ) (p q : ℕ → Bool) → ((i : ℕ) → p i ≡ q i) → someBelow n p ≡ someBelow n q
-unfolding someBelow
-some-below-equal zero p q e = refl
-some-below-equal (suc n) p q e = rw (some-below-equal n p q e, e n)
-
 blocked-blind : (is : List ℕ) (cs : List Circle) (p i k : ℕ) (c : Circle) → blocked (inked is cs) p i (withInk k c) ≡ blocked cs p i c
 unfolding blocked
 blocked-blind is cs p i k c =
@@ -279,7 +273,7 @@ repositioned-carries is cs p i =
     let moved = childAt parent child u d in
     let stays = (dMax ≤ᶠ nought) || there (move parent child u d) dMax in
     rw (inked-some is cs p, inked-some is cs i, blocked-blind is cs p i (inkAt is cs i) moved)
-    (pushed (inkedChild (inkAt is cs i)) (stays || not (contains parent moved) || blocked cs p i moved) refl refl)
+    (sym (chosen (inkedChild (inkAt is cs i)) (stays || not (contains parent moved) || blocked cs p i moved) none (some moved)))
 
 abbrev inkedMoved : List ℕ → Moved → Moved
 inkedMoved is s = record { circles = inked is (s .circles); mask = s .mask }
@@ -305,7 +299,7 @@ tried-carries : (is : List ℕ) (ps : List (Option ℕ)) (s : Moved) (i : ℕ) (
 unfolding tried
 tried-carries is ps s i none = refl
 tried-carries is ps s i (some p) =
-    pushed (inkedMoved is) (onlyChild ps p) (ap (replaced i (inkedMoved is s)) (repositioned-carries is (s .circles) p i) ∙ replaced-carries is i s (repositioned (s .circles) p i)) refl
+    rw (repositioned-carries is (s .circles) p i, replaced-carries is i s (repositioned (s .circles) p i)) (sym (chosen (inkedMoved is) (onlyChild ps p) _ s))
 
 tries-carry : (is : List ℕ) (n : ℕ) (ps : List (Option ℕ)) (s : Moved)
     → inTurn n (λ i s. tried ps s i (getD ps i none)) (inkedMoved is s) ≡ inkedMoved is (inTurn n (λ i s. tried ps s i (getD ps i none)) s)
@@ -318,7 +312,8 @@ pub offset-carries : (rs : List Region) (is : List ℕ) (cs : List Circle) → o
 unfolding offset
 offset-carries rs is cs =
     let n = length cs in
-    rw (length-inked is cs) (pushed (inkedMoved is) (ltb n 2) refl (tries-carry is n (parents n rs) (record { circles = cs; mask = 0 })))
+    let start : Moved = record { circles = cs; mask = 0 } in
+    rw (length-inked is cs, tries-carry is n (parents n rs) start) (sym (chosen (inkedMoved is) (ltb n 2) start _))
 
 -- ---- the whole
 

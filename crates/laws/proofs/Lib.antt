@@ -22,3 +22,8 @@ pub mod CardTexts
 pub mod Accepted
 pub mod Inks
 pub mod MaskBits
+pub mod Bytes
+pub mod Fields
+pub mod Saving
+pub mod Bodies
+pub mod NextFields

@@ -4,7 +4,7 @@ use native.Mathlib.Omega.{arith}
 use native.Mathlib.Decide.{decLe, decLt}
 use mathlib.Core.Path.{_≡_, refl, ap, subst}
 use mathlib.Core.Logic.{_↔_, _⊎_, inl, inr, ⊎-elim}
-use mathlib.Core.Bool.{Bool}
+use mathlib.Core.Bool.{Bool, true, false, cond}
 use mathlib.Core.List.{List, [], _∷_, _++_}
 use lib.ListN.{length, getD, replicate, length-append, length-replicate, List·getD-append, List·getD-eq-default, getD-replicate}
 use lib.Seq.{getD-append-add}
@@ -179,6 +179,11 @@ someBelow-iff n p = (found n, λ e. passes-below n p (e .0) (e .1) (e .2))
     found zero h = absurd h
     found (suc m) h = ⊎-elim (λ t. let e = found m t in (e .0, omega (arith, e .1), e .2)) (λ t. (m, omega arith, t)) (or-iff (someBelow m p) (p m) .0 h)
 
+pub some-below-equal : (n : ℕ) (p q : ℕ → Bool) → ((i : ℕ) → p i ≡ q i) → someBelow n p ≡ someBelow n q
+unfolding someBelow
+some-below-equal zero p q e = refl
+some-below-equal (suc n) p q e = rw (some-below-equal n p q e, e n)
+
 module _ {ℓ} {A : Type ℓ} (p : A → Bool) where
   -- by a place
   pub any-at : (l : List A) (d : A) → T (any p l) ↔ ((i : ℕ) × (i < length l) × T (p (getD l i d)))
@@ -196,6 +201,12 @@ module _ {ℓ} {A : Type ℓ} (p : A → Bool) where
 
   pub none-at : (l : List A) (d : A) → (¬ T (any p l)) ↔ ((i : ℕ) → i < length l → ¬ T (p (getD l i d)))
   none-at l d = (λ f i h t. f (any-at l d .1 (i, h, t)), λ f t. let e = any-at l d .0 t in f (e .0) (e .1) (e .2))
+
+-- ---- one of two lists of a length
+
+pub either-length : {A : Type 0} (b : Bool) (n : ℕ) (xs ys : List A) → length xs ≡ n → length ys ≡ n → length (cond b xs ys) ≡ n
+either-length true n xs ys e f = e
+either-length false n xs ys e f = f
 
 -- ---- filled
 

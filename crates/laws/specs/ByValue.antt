@@ -1,13 +1,16 @@
 -- Lets one say what each call by value checks: first its count, then the first n records of the array and nothing past them.
 use Prim.Native.Nat.{ℕ}
 use mathlib.Core.Bool.{not, _||_}
-use mathlib.Core.List.{List, [], _∷_}
+use mathlib.Core.List.{List, [], _∷_, map}
 use lib.ListN.{length, take}
 use lib.Ieee.{Float}
 use Rattle.shapes.specs.declared.circle.Circle.{Circle}
 use Rattle.shapes.specs.declared.rectangle.Rectangle.{Rectangle}
 use Rattle.scope.specs.Runs.{any}
-use Rattle.scope.specs.Refusals.{Checks, tooMany, unequal, tooManyRegions, badPoint, badCentre, badRadius, rising, badFactor, badSide, badPadding, sameInk}
+use Rattle.scope.specs.Refusals.{Checks, tooMany, unequal, tooManyRegions, badPoint, badCentre, badRadius, rising}
+use Rattle.scope.specs.Refusals.{badFactor, badSide, badPadding, sameInk, tooShort}
+use Rattle.scope.specs.CardFile.{floatOf}
+use Rattle.scope.specs.Saving.{fileOf, cardOf}
 
 -- `find_clusters`
 abbrev pub firstCirclesChecks : ℕ → List Circle → Checks
@@ -28,3 +31,10 @@ abbrev pub firstLayoutChecks : ℕ → List Circle → Float → List ℕ → Li
 firstLayoutChecks n cs factor masks areas =
     (1, tooMany n) ∷ (13, unequal masks areas) ∷ (2, tooManyRegions (length masks)) ∷ (3, any badCentre (take n cs)) ∷ (4, any badRadius (take n cs))
     ∷ (5, not (rising masks)) ∷ (6, badFactor factor) ∷ (14, sameInk (take n cs)) ∷ []
+
+-- `write_card`: an area is that of its pattern, and the size that of the file of the first n circles
+abbrev pub firstWriterChecks : ℕ → List Circle → Float → List ℕ → List ℕ → List ℕ → Checks
+firstWriterChecks n cs factor masks patterns out =
+    (1, tooMany n) ∷ (13, unequal masks (map floatOf patterns)) ∷ (2, tooManyRegions (length masks)) ∷ (3, any badCentre (take n cs))
+    ∷ (4, any badRadius (take n cs)) ∷ (5, not (rising masks)) ∷ (6, badFactor factor) ∷ (14, sameInk (take n cs))
+    ∷ (15, tooShort (length out) (length (fileOf (cardOf factor (take n cs) masks patterns)))) ∷ []

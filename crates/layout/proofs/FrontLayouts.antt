@@ -54,7 +54,7 @@ bare-doubles n xs ys rs factor x y r f =
     below i l = let g = rw (length-bare n xs ys rs) at l in omega arith
 
 -- and the inks do not count
-inked-doubles : (is : List ℕ) (cs : List Circle) (factor : Float) → AreDoubles cs factor → AreDoubles (inked is cs) factor
+pub inked-doubles : (is : List ℕ) (cs : List Circle) (factor : Float) → AreDoubles cs factor → AreDoubles (inked is cs) factor
 inked-doubles is cs factor d =
     record {
       x = λ i l. let h = inside i l in rw (inked-at is cs i h) (d .x i h);

@@ -15,9 +15,9 @@ use Rattle.scope.specs.Runs.{least}
 use Rattle.scope.specs.Gauge.{level, turn, changed, rotated, turned, mirrorX, mirrorY, mirroredX, mirroredY, rotateCluster}
 use Rattle.scope.specs.Links.{circle}
 use Rattle.scope.specs.Gauge as gauge
+use Rattle.laws.proofs.Runs.{either-length}
 use Rattle.intake.specs.Columns.{bareCircle, at, circlesOf, members, Lifted}
 use Rattle.intake.proofs.Columns.{length-shown, shown-at, shown-equal, length-members, members-at}
-use Rattle.intake.proofs.InPlace.{either-length}
 use Rattle.layout.specs.Ranges.{rangeOver, middleOf}
 use Rattle.layout.specs.Turns.{turnedX, turnedY, turnedXs, turnedYs, mirroredAt, mirrored}
 use Rattle.layout.proofs.Members.{another}

@@ -28,7 +28,7 @@ use Rattle.layout.specs.ClusterBoxes.{InClusters, BoxLists, shiftedBy}
 use Rattle.layout.proofs.ClusterBoxes.{shift-shown, few-stay, many-move}
 
 -- ---- a part of a list
-pub part-length : (k w : ℕ) (l : List Float) → length l ≡ w → k ≤ w → length (take (k - 0) l) ≡ k
+pub part-length : {A : Type 0} (k w : ℕ) (l : List A) → length l ≡ w → k ≤ w → length (take (k - 0) l) ≡ k
 part-length k w l e h = rw (sub-zero k) (length-take-le k l (rw e h))
 
 pub part-written : (k : ℕ) (new old : List Float) → length new ≡ k → take k (new ++ drop (k - 0) old) ≡ new

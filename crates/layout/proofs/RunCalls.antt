@@ -20,7 +20,8 @@ use Rattle.intake.specs.Limits.{maxCircles}
 use Rattle.intake.specs.CauseWords.{front}
 use Rattle.intake.specs.Columns.{xsOf, ysOf, radiiOf}
 use Rattle.scope.specs.Twins.{unlessMany}
-use Rattle.laws.proofs.Counted.{chosen, none-counted, of-run}
+use Rattle.laws.proofs.Cases.{chosen}
+use Rattle.laws.proofs.Counted.{none-counted, of-run}
 use Rattle.intake.proofs.Splitting.{splitOf}
 use Rattle.layout.specs.Answered.{Answered}
 use Rattle.layout.specs.Answers.{resultOf, placedOf}

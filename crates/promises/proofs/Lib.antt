@@ -3,3 +3,4 @@ pub mod offset
 pub mod gauge
 pub mod packing
 pub mod whole
+pub mod saved

@@ -1,3 +1,4 @@
 pub mod Demand3
 pub mod Duds
 pub mod Inks
+pub mod SavedCards

@@ -1,1 +1,1 @@
-// Theorems about the definitions of `scope`: the four promises of a layout, and that ink numbers travel with circles. No functions.
+// Theorems about the definitions of `scope`: the four promises of a layout, that ink numbers travel with circles, and that saved cards come back. No functions.

@@ -1,7 +1,7 @@
 -- A fraction a / b to the nearest whole number: within a half of it, and at a tie the even one.
 use mathlib.Core.Path.{_≡_, sym, subst}
 use mathlib.Core.Logic.{_⊎_, inl, inr}
-use Prim.Native.Nat.{ℕ, zero, suc, _+_, _-_, _*_, _/_, _%_, _≤_, _<_, compare, Ordering, Ordering·lt, Ordering·eq, Ordering·gt}
+use Prim.Native.Nat.{ℕ, zero, suc, _+_, _*_, _/_, _%_, _≤_, _<_, compare, Ordering, Ordering·lt, Ordering·eq, Ordering·gt}
 use native.Mathlib.Nat.{le-trans, div-add-mod', mod-lt, le-suc}
 use native.Mathlib.Omega.{arith}
 use mathlib.Core.Bool.{not}

@@ -1,6 +1,6 @@
 -- Two finite values of a format that have the same sign and the same size are equal as data: an odd number times a power of two is so in one way.
 use mathlib.Core.Path.{_≡_, refl, sym, ap, _∙_}
-use Prim.Native.Nat.{ℕ, zero, suc, _-_, _*_, _%_, _^_, _≤_}
+use Prim.Native.Nat.{ℕ, zero, suc, _*_, _%_, _^_, _≤_}
 use native.Mathlib.Nat.{mul-pos, zero-lt-suc, pow-succ'}
 use native.Mathlib.Omega.{arith}
 use mathlib.Core.Bool.{Bool}

@@ -1,3 +1,2 @@
 pub mod PassOn
 pub mod Bodies
-pub mod Writing

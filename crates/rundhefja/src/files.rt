@@ -1,19 +1,20 @@
-// A field of a card file, and the text that program `card` prints for one.
+// A field of a card file, the file of a card, and the text that program `card` prints for one.
 ghost use mathlib.Core.Path.{_≡_};
-ghost use Prim.Native.Nat.{min};
 ghost use lib.ListN.{length, take, drop};
 ghost use Rattle.scope.specs.CardFile.{readField, fieldBody};
-ghost use Rattle.scope.specs.Print.{cardText};
+ghost use Rattle.scope.specs.Saving.{cardOf, writeCard, writeText};
 ghost use Rattle.card_file.specs.Answers.{fieldAnswer};
 ghost use Rattle.card_file.specs.Parts.{bodyPlace};
+ghost use Rattle.card_file.specs.Saving.{saved, ReadsBack};
 ghost use Rattle.rundhefja.specs.Answers.{fieldRead};
-ghost use Rattle.rundhefja.specs.Written.{written};
 use crate::answers::FieldRead;
-use card_file::card_text;
+use card_file::Written;
 use card_file::fields::Field;
 use card_file::fields::HEAD_LENGTH;
 use card_file::fields::field_body;
 use card_file::fields::read_field;
+use card_file::write_card;
+use card_file::write_text;
 use shapes::circle::Circle;
 use shapes::point::Point;
 
@@ -28,16 +29,28 @@ pub extern "C" fn rundhefja_field(file: &[u8], at: usize) -> FieldRead
     field_read(read_field(file, at), start, length)
 }
 
-// How long the text is, at most 4,096 bytes, however many of them there is room for.
+// The card's file, put into a lent list.
 #[no_mangle]
-pub extern "C" fn rundhefja_card_text(input: &[u8], text: &mut [u8]) -> usize
-    ensures { λ r. ⌜ (r ≡ length (cardText (now (input .entry)))) × (now (text .exit) ≡ written (cardText (now (input .entry))) (now (text .entry))) ⌝ }
+pub extern "C" fn rundhefja_write_card(
+    circles: &[Circle],
+    factor: f64,
+    masks: &[u64],
+    patterns: &[u64],
+    out: &mut [u8],
+) -> Written
+    ensures { λ r. ⌜ (saved r (now (out .exit))
+        ≡ writeCard (cardOf factor (now (circles .entry)) (now (masks .entry)) (now (patterns .entry))) (now (out .entry)))
+        × ReadsBack (cardOf factor (now (circles .entry)) (now (masks .entry)) (now (patterns .entry))) r (now (out .exit)) ⌝ }
 {
-    let printed = card_text(input);
-    let bytes = printed.bytes;
-    let length = printed.length;
-    write_bytes(text, &bytes[..length]);
-    length
+    write_card(circles, factor, masks, patterns, out)
+}
+
+// The text, put into a lent list: 4,096 bytes are enough for any.
+#[no_mangle]
+pub extern "C" fn rundhefja_card_text(input: &[u8], text: &mut [u8]) -> Written
+    ensures { λ r. ⌜ saved r (now (text .exit)) ≡ writeText (now (input .entry)) (now (text .entry)) ⌝ }
+{
+    write_text(input, text)
 }
 
 // ---- a field's value in its parts
@@ -83,23 +96,4 @@ fn field_read(field: Field, start: usize, length: usize) -> FieldRead
         }
     }
     read
-}
-
-// ---- a lent list, written from its start: as much as there is room for, and the rest stays as it was
-
-fn write_bytes(out: &mut [u8], bytes: &[u8])
-    ensures { λ _. ⌜ now (out .exit) ≡ written (now (bytes .entry)) (now (out .entry)) ⌝ }
-{
-    let end = smaller(bytes.len(), out.len());
-    let mut i: usize = 0;
-    while i < end {
-        out[i] = bytes[i];
-        i += 1;
-    }
-}
-
-fn smaller(a: usize, b: usize) -> usize
-    ensures { λ r. ⌜ r ≡ min a b ⌝ }
-{
-    if a < b { a } else { b }
 }

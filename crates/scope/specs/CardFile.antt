@@ -4,7 +4,7 @@ use mathlib.Core.Bool.{Bool, not, _&&_, _||_, cond}
 use mathlib.Core.List.{List, [], _∷_, _++_}
 use lib.Dec.{eqb, ltb}
 use lib.ListN.{getD, length, take, drop}
-use lib.Ieee.{Float, binary64, ofBits}
+use lib.Ieee.{Float, binary64, ofBits, toBits}
 use Rattle.shapes.specs.declared.circle.Circle.{Circle}
 use Rattle.scope.specs.Refusals.{Answer, refused, given, answer, frontToBack, tooMany, tooManyRegions, layoutRefusal}
 use Rattle.shapes.specs.Records.{circleOf}
@@ -19,6 +19,10 @@ littleEndian (b ∷ bs) = b + 256 * littleEndian bs
 -- `float_of`: every NaN pattern is the one NaN
 unfoldable pub floatOf : ℕ → Float
 floatOf pattern = ofBits binary64 pattern
+
+-- the 64 bits of a float, a zero's sign too; the one NaN has a pattern of its own
+unfoldable pub patternOf : Float → ℕ
+patternOf x = toBits binary64 x
 
 -- the 64-bit number at a place
 unfoldable pub word : List ℕ → ℕ → ℕ

@@ -18,9 +18,11 @@ use Rattle.scope.specs.Groups.{refusedGrouping, areaGrouping, plainGroup
 use Rattle.scope.specs.Tolerance.{tolerance}
 use Rattle.scope.specs.Packing.{skylinePack, columnsAnswer, rows, noRectangle, refusedPacking}
 use Rattle.scope.specs.Container.{contained}
-use Rattle.scope.specs.CardFile.{factorField, circleField, regionField, Card, readField, fieldBody, nextRefusal}
+use Rattle.scope.specs.CardFile.{factorField, circleField, regionField, Card, readField, fieldBody, nextRefusal, readCard}
 use Rattle.scope.specs.Text.{bytes}
 use Rattle.scope.specs.Print.{cardText, float}
+use Rattle.scope.specs.Saving.{cardOf, fileOf, refusedSaving, writeCard, writeText}
+use Rattle.scope.specs.Twins.{firstWritten}
 use Rattle.scope.specs.Computing.{computing}
 use Rattle.scope.specs.Samples.{wholeCircle, grouped, fileJ}
 
@@ -192,6 +194,14 @@ pub record CardChecks : Type 0 where
       ≡ bytes "circles 2 clusters 1 moved 0000000000000000 padding 0000000000000000\n"
       ++ bytes "0 0 0000000000000000 0000000000000000 4010000000000000 1\n"
       ++ bytes "1 0 0000000000000000 0000000000000000 3ff0000000000000 2\n"
+  -- two children of one parent both stay, though there is room for either
+  pub siblings : cardText
+      (factorBytes 0 ++ circleBytes 0 0 (wholeBits 4) 1 ++ circleBytes 0 0 0x3fd0_0000_0000_0000 2 ++ circleBytes 0 0 0x3fd0_0000_0000_0000 3
+      ++ regionBytes 1 (wholeBits 10) ++ regionBytes 3 (wholeBits 3) ++ regionBytes 5 (wholeBits 3))
+      ≡ bytes "circles 3 clusters 1 moved 0000000000000000 padding 0000000000000000\n"
+      ++ bytes "0 0 0000000000000000 0000000000000000 4010000000000000 1\n"
+      ++ bytes "1 0 0000000000000000 0000000000000000 3fd0000000000000 2\n"
+      ++ bytes "2 0 0000000000000000 0000000000000000 3fd0000000000000 3\n"
   -- an area equal to the tolerance 1e-10 does not link
   pub at-tolerance : cardText (nested ++ regionBytes 1 (wholeBits 1) ++ regionBytes 3 0x3ddb_7cdf_d9d7_bdbb)
       ≡ bytes "circles 2 clusters 2 moved 0000000000000000 padding 0000000000000000\n"
@@ -237,6 +247,7 @@ cards =
       child = refl;
       nan-area = refl;
       two-partners = refl;
+      siblings = refl;
       at-tolerance = refl;
       sum-order = refl;
       mirror = refl;
@@ -357,6 +368,64 @@ reader =
       read-cut = refl;
       body-handed = refl;
       body-refused = refl;
+    }
+
+-- ---- the card writer
+
+-- an output of n bytes, none of which a file has at its place
+abbrev pub lentBytes : ℕ → List ℕ
+lentBytes n = replicate n 0xaa
+
+-- sample (j)'s card, and one with a region
+abbrev pub cardJ : Card
+cardJ = cardOf nought (wholeCircle 0 0 1 1 ∷ wholeCircle 10 0 1 2 ∷ []) [] []
+
+abbrev pub oneRegion : Float → ℕ → Card
+oneRegion factor pattern = cardOf factor (wholeCircle 0 0 1 7 ∷ []) (5 ∷ []) (pattern ∷ [])
+
+pub record SavingChecks : Type 0 where
+  -- the file of sample (j), byte for byte
+  pub sample-j : fileOf cardJ ≡ fileJ
+  -- "all bits kept": a factor of -0, a NaN with digits, masks by eight bytes
+  pub all-bits : fileOf (oneRegion (neg nought) 0xfff0_0000_0000_0001) ≡ factorBytes minusZero ++ unit ++ regionBytes 5 0xfff0_0000_0000_0001
+  -- read again, the same card
+  pub back : readCard (fileOf (oneRegion (neg nought) 0xfff0_0000_0000_0001)) ≡ given (oneRegion (neg nought) 0xfff0_0000_0000_0001)
+  -- the shortest file has 11 bytes, and what lies behind them stays
+  pub shortest : writeCard (cardOf nought [] [] []) (lentBytes 12) ≡ record { refusal = 0; written = 11; output = factorBytes 0 ++ 0xaa ∷ [] }
+  -- "too short": one byte less is 15 and changes nothing, the very length serves
+  pub exactly : writeCard cardJ (lentBytes 69) ≡ record { refusal = 0; written = 69; output = fileJ }
+  pub one-less : writeCard cardJ (lentBytes 68) ≡ refusedSaving (lentBytes 68) 15
+  -- "after all value checks"
+  pub ink-first : writeCard (cardOf nought (wholeCircle 0 0 1 7 ∷ wholeCircle 9 0 1 7 ∷ []) [] []) [] ≡ refusedSaving [] 14
+  pub lists-first : writeCard (cardOf (whole 2) (wholeCircle 0 0 0 1 ∷ []) (5 ∷ []) []) [] ≡ refusedSaving [] 13
+  pub coordinate-first : writeCard (cardOf (whole 2) (circleOf (whole 1048577) nought one 1 ∷ []) [] []) [] ≡ refusedSaving [] 3
+  pub output-last : writeCard (oneRegion nought 0) [] ≡ refusedSaving [] 15
+  -- circles at or past the count are not looked at
+  pub first-one : firstWritten 1 (wholeCircle 0 0 1 7 ∷ wholeCircle 0 0 0 7 ∷ []) nought [] [] (lentBytes 40)
+      ≡ record { refusal = 0; written = 40; output = factorBytes 0 ++ unit }
+  pub count-65 : firstWritten 65 [] nan [] [] [] ≡ refusedSaving [] 1
+  -- the text of a card, in a list that is long enough and in one that is not
+  pub text : writeText [] (lentBytes 11) ≡ record { refusal = 0; written = 10; output = bytes "refused 9\n" ++ 0xaa ∷ [] }
+  pub text-short : writeText [] (lentBytes 9) ≡ refusedSaving (lentBytes 9) 15
+
+pub savings : SavingChecks
+unfolding computing fileJ unit factorBytes circleBytes regionBytes eight wholeBits
+savings =
+    record {
+      sample-j = refl;
+      all-bits = refl;
+      back = refl;
+      shortest = refl;
+      exactly = refl;
+      one-less = refl;
+      ink-first = refl;
+      lists-first = refl;
+      coordinate-first = refl;
+      output-last = refl;
+      first-one = refl;
+      count-65 = refl;
+      text = refl;
+      text-short = refl;
     }
 
 -- ---- packing and container

@@ -18,6 +18,7 @@ pub mod Twins
 pub mod CardFile
 pub mod Text
 pub mod Print
+pub mod Saving
 pub mod Promises
 pub mod Computing
 pub mod Samples

@@ -4,7 +4,7 @@ use mathlib.Core.Bool.{cond}
 use mathlib.Core.List.{List, [], _++_}
 use lib.Dec.{ltb}
 use lib.ListN.{getD, length}
-use lib.Ieee.{Float, binary64, eq, toBits}
+use lib.Ieee.{Float, eq}
 use Rattle.shapes.specs.declared.circle.Circle.{Circle}
 use Rattle.scope.specs.Numbers.{nought}
 use Rattle.scope.specs.Runs.{tab, least, inTurn}
@@ -12,7 +12,7 @@ use Rattle.scope.specs.Limits.{inputCap}
 use Rattle.scope.specs.Refusals.{Answer, refused, given}
 use Rattle.scope.specs.Links.{circle}
 use Rattle.scope.specs.Layout.{Layout, layout}
-use Rattle.scope.specs.CardFile.{Card, readCard}
+use Rattle.scope.specs.CardFile.{Card, patternOf, readCard}
 use Rattle.scope.specs.Text.{bytes}
 
 -- a number in decimal: no zeros in front
@@ -35,7 +35,7 @@ sixteenDigits n = hexadecimal 15 n
 
 -- "Either zero prints as sixteen 0s."
 unfoldable pub bitsOf : Float → ℕ
-bitsOf x = cond (eq x nought) 0 (toBits binary64 x)
+bitsOf x = cond (eq x nought) 0 (patternOf x)
 
 unfoldable pub float : Float → List ℕ
 float x = sixteenDigits (bitsOf x)

@@ -11,9 +11,9 @@ use Rattle.shapes.specs.declared.rectangle.Rectangle.{Rectangle}
 use Rattle.scope.specs.Runs.{any}
 use Rattle.scope.specs.Limits.{circleCap, regionCap, coordinateOk, radiusOk, factorOk, sideOk, paddingOk}
 
--- ---- "The lowest wins, but 13 goes before 2." Document 02, 1/14: 14 is "looked for after every check of document 01".
+-- ---- "The lowest wins, but 13 goes before 2." Document 02, 1/14: 14 is "looked for after every check of document 01"; 2/14: 15 is "after all value checks".
 unfoldable pub causes : List ℕ
-causes = 1 ∷ 13 ∷ 2 ∷ 3 ∷ 4 ∷ 5 ∷ 6 ∷ 7 ∷ 8 ∷ 9 ∷ 10 ∷ 11 ∷ 12 ∷ 14 ∷ []
+causes = 1 ∷ 13 ∷ 2 ∷ 3 ∷ 4 ∷ 5 ∷ 6 ∷ 7 ∷ 8 ∷ 9 ∷ 10 ∷ 11 ∷ 12 ∷ 14 ∷ 15 ∷ []
 
 -- What a call checks: numbers, and whether the cause of each holds.
 abbrev pub Checks : Type 0
@@ -102,6 +102,10 @@ inks cs = map (λ c. c .ink) cs
 unfoldable pub sameInk : List Circle → Bool
 sameInk cs = repeated (inks cs)
 
+-- 15, "A lent output too short": it has room for fewer bytes than are to be written
+unfoldable pub tooShort : ℕ → ℕ → Bool
+tooShort room size = ltb room size
+
 -- ---- what each call checks; 9, 10 and 11 stand with the card file, 12 with the root. "Duplicate ink numbers give 14 wherever a call takes a list of circles"
 
 -- the distance of two points
@@ -146,3 +150,14 @@ layoutRefusal cs factor masks areas =
     refusal
     ((1, tooMany (length cs)) ∷ (13, unequal masks areas) ∷ (2, tooManyRegions (length masks)) ∷ (3, any badCentre cs) ∷ (4, any badRadius cs)
     ∷ (5, not (rising masks)) ∷ (6, badFactor factor) ∷ (14, sameInk cs) ∷ [])
+
+-- the card writer, with an output of `room` bytes for a file of `size`: the layout's checks, then the output's
+unfoldable pub writerRefusal : List Circle → Float → List ℕ → List Float → ℕ → ℕ → ℕ
+writerRefusal cs factor masks areas room size =
+    refusal
+    ((1, tooMany (length cs)) ∷ (13, unequal masks areas) ∷ (2, tooManyRegions (length masks)) ∷ (3, any badCentre cs) ∷ (4, any badRadius cs)
+    ∷ (5, not (rising masks)) ∷ (6, badFactor factor) ∷ (14, sameInk cs) ∷ (15, tooShort room size) ∷ [])
+
+-- a text written into a lent list
+unfoldable pub textRefusal : ℕ → ℕ → ℕ
+textRefusal room size = refusal ((15, tooShort room size) ∷ [])

@@ -12,6 +12,7 @@ use Rattle.scope.specs.Groups.{Grouping, refusedGrouping, plainGrouping}
 use Rattle.scope.specs.Packing.{Packing, refusedPacking, skylinePack}
 use Rattle.scope.specs.Container.{Contained, refusedContainer, contained}
 use Rattle.scope.specs.Layout.{Layout, layout, refusedLayout}
+use Rattle.scope.specs.Saving.{Saved, refusedSaving, cardOf, writeCard}
 
 -- what is answered of n records, unless there are too many
 abbrev pub unlessMany : {X : Type 0} → ℕ → X → X → X
@@ -46,3 +47,7 @@ withRest n cs r = record { refusal = r .refusal; container = r .container; circl
 
 unfoldable pub firstContained : ℕ → List Circle → Rectangle → Contained
 firstContained n cs container = unlessMany n (refusedContainer cs container 1) (withRest n cs (contained (take n cs) container))
+
+-- ---- `write_card`: the card of the first n circles of an array
+unfoldable pub firstWritten : ℕ → List Circle → Float → List ℕ → List ℕ → List ℕ → Saved
+firstWritten n cs factor masks patterns out = unlessMany n (refusedSaving out 1) (writeCard (cardOf factor (take n cs) masks patterns) out)

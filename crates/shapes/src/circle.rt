@@ -11,6 +11,7 @@ use crate::point::Point;
 pub struct Circle {
     pub center: Point,
     pub radius: f64,
+    // Its number in the recipe book. Every step carries it, and none looks at it.
     pub ink: u16,
 }
 

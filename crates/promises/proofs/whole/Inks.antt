@@ -20,13 +20,13 @@ use Rattle.scope.specs.Container.{reachesPast, settled, centredIn, contained}
 use Rattle.scope.specs.Gauge.{middleX, middleY}
 use Rattle.scope.specs.Padding.{boxAll}
 use Rattle.scope.specs.Twins.{firstLayout, firstContained}
-use Rattle.laws.proofs.Runs.{length-tab}
+use Rattle.laws.proofs.Runs.{length-tab, either-length}
 use Rattle.laws.proofs.AfterRefusal.{layout-answers, container-answers}
 use Rattle.laws.proofs.Counted.{by-many}
 use Rattle.laws.specs.Inks.{inked}
 use Rattle.laws.proofs.Inks.{inked-again, carried, moved-carries, translated-carries, rotated-carries, mirrorX-carries, mirrorY-carries, shift-carries, offset-carries, turned-carries, mirrored-carries, gauged-carries, pack-carries, centred-carries, settled-carries, plain-clusters-blind, arranged-carries}
 use Rattle.promises.specs.Inks.{InksTravel}
-use Rattle.promises.proofs.whole.Lengths.{either-length, arranged-length}
+use Rattle.promises.proofs.whole.Lengths.{arranged-length}
 
 -- ---- the calls on a run
 

@@ -1,7 +1,7 @@
 -- No step of the layout changes how many circles there are.
 use Prim.Native.Nat.{ℕ, zero, suc}
 use mathlib.Core.Path.{_≡_, refl, _∙_}
-use mathlib.Core.Bool.{Bool, true, false, cond}
+use mathlib.Core.Bool.{Bool}
 use mathlib.Core.List.{List}
 use lib.Dec.{ltb}
 use lib.Ieee.{Float}
@@ -14,14 +14,10 @@ use Rattle.scope.specs.Links.{Region}
 use Rattle.scope.specs.Gauge.{rotateCluster, inCluster, gauged}
 use Rattle.scope.specs.Padding.{shifted, packClusters}
 use Rattle.scope.specs.Layout.{arranged}
-use Rattle.laws.proofs.Runs.{length-tab}
+use Rattle.laws.proofs.Runs.{length-tab, either-length}
 use Rattle.promises.proofs.gauge.Cluster.{rotate-length}
 use Rattle.promises.proofs.offset.AfterOffset.{offset-length}
 use Rattle.promises.proofs.packing.Centred.{centred-length}
-
-pub either-length : {A : Type 0} (b : Bool) (n : ℕ) (xs ys : List A) → length xs ≡ n → length ys ≡ n → length (cond b xs ys) ≡ n
-either-length true n xs ys e f = e
-either-length false n xs ys e f = f
 
 turns-length : (count : ℕ) (member : ℕ → ℕ → Bool) (cs : List Circle) → length (inTurn count (λ a. rotateCluster (member a)) cs) ≡ length cs
 unfolding inTurn

@@ -10,7 +10,7 @@ use Rattle.card_file.proofs.lines.put_decimal.Reads as put-decimal
 use Rattle.card_file.proofs.lines.put_decimal.Kinds as put-decimal-kinds
 use Rattle.card_file.proofs.lines.+put_decimal.Lts-put_decimal as put-decimal-lts
 use Rattle.card_file.proofs.lines.decimal_digit.Reads as decimal-digit-reads
-use Rattle.card_file.proofs.lines.put_byte.Reads as put-byte-reads
+use Rattle.card_file.proofs.puts.put_byte.Reads as put-byte-reads
 use Rattle.card_file.proofs.lines.+put_decimal.{statement}
 use Rattle.card_file.proofs.lines.+put_decimal.Tie.{close}
 
@@ -44,8 +44,18 @@ put-decimal-put-byte-requires : (t : ℕ) → put-decimal-lts.Need-put-byte-requ
   put-decimal.Post,
 ) (put-decimal-at t) put-decimal.Post
 put-decimal-put-byte-requires t c κs =
-    let start = c .before .before .before in
+    let start = c .before .before .before .before in
     omega (arith, start .pre .1, decimal-one-length (start .args .n) (c .before .if1 .taken))
+
+put-decimal-same-length : (t : ℕ) → put-decimal-lts.Need-same-length (
+  decimal-digit-reads.Asked,
+  decimal-digit-reads.Learnt,
+  put-byte-reads.Asked,
+  put-byte-reads.Learnt,
+  put-decimal-below t,
+  put-decimal.Post,
+) (put-decimal-at t) put-decimal.Post
+put-decimal-same-length t c = omega arith
 
 put-decimal-returns : (t : ℕ) → put-decimal-lts.Need-returns (
   decimal-digit-reads.Asked,
@@ -56,8 +66,8 @@ put-decimal-returns : (t : ℕ) → put-decimal-lts.Need-returns (
   put-decimal.Post,
 ) (put-decimal-at t) put-decimal.Post
 put-decimal-returns t c =
-    let start = c .before .before .before .before in
-    put-only (decimal-one (start .args .n) (c .before .before .if1 .taken)) (c .before .before .before .decimal-digit .ensures) (c .put-byte .ensures)
+    let start = c .before .before .before .before .before .before .before in
+    put-only (decimal-one (start .args .n) (c .before .before .before .before .if1 .taken)) (c .before .before .before .before .before .decimal-digit .ensures) (c .before .before .put-byte .ensures)
 
 put-decimal-put-decimal-requires : (t : ℕ) → put-decimal-lts.Need-put-decimal-requires (
   decimal-digit-reads.Asked,
@@ -68,7 +78,7 @@ put-decimal-put-decimal-requires : (t : ℕ) → put-decimal-lts.Need-put-decima
   put-decimal.Post,
 ) (put-decimal-at t) put-decimal.Post
 put-decimal-put-decimal-requires t c κs =
-    let start = c .before .before .before in (
+    let start = c .before .before .before .before in (
       omega (arith, start .pre .0, c .before .if1 .left),
       omega (arith, start .pre .1, decimal-more-length (start .args .n) (c .before .if1 .left)),
     )
@@ -82,8 +92,18 @@ put-decimal-put-byte-requires-2 : (t : ℕ) → put-decimal-lts.Need-put-byte-re
   put-decimal.Post,
 ) (put-decimal-at t) put-decimal.Post
 put-decimal-put-byte-requires-2 t c κs =
-    let start = c .before .before .before .before .before in
-    omega (arith, start .pre .1, decimal-more-length (start .args .n) (c .before .before .before .if1 .left), c .before .put-decimal .ensures .place)
+    let start = c .before .before .before .before .before .before .before .before in
+    omega (arith, start .pre .1, decimal-more-length (start .args .n) (c .before .before .before .before .before .if1 .left), c .before .before .before .put-decimal .ensures .place)
+
+put-decimal-same-length-2 : (t : ℕ) → put-decimal-lts.Need-same-length-2 (
+  decimal-digit-reads.Asked,
+  decimal-digit-reads.Learnt,
+  put-byte-reads.Asked,
+  put-byte-reads.Learnt,
+  put-decimal-below t,
+  put-decimal.Post,
+) (put-decimal-at t) put-decimal.Post
+put-decimal-same-length-2 t c = omega arith
 
 put-decimal-returns-2 : (t : ℕ) → put-decimal-lts.Need-returns-2 (
   decimal-digit-reads.Asked,
@@ -94,12 +114,12 @@ put-decimal-returns-2 : (t : ℕ) → put-decimal-lts.Need-returns-2 (
   put-decimal.Post,
 ) (put-decimal-at t) put-decimal.Post
 put-decimal-returns-2 t c =
-    let start = c .before .before .before .before .before .before in
+    let start = c .before .before .before .before .before .before .before .before .before .before .before in
     put-last
-    (decimal-more (start .args .n) (c .before .before .before .before .if1 .left))
-    (c .before .before .before .before .before .decimal-digit .ensures)
-    (c .before .before .put-decimal .ensures)
-    (c .put-byte2 .ensures)
+    (decimal-more (start .args .n) (c .before .before .before .before .before .before .before .before .if1 .left))
+    (c .before .before .before .before .before .before .before .before .before .decimal-digit .ensures)
+    (c .before .before .before .before .before .before .put-decimal .ensures)
+    (c .before .before .put-byte2 .ensures)
 
 pub +put-decimal-spec : {M : Type 1} → statement M
 +put-decimal-spec = close μ-put-decimal λ t. put-decimal-lts.spec (
@@ -114,7 +134,9 @@ pub +put-decimal-spec : {M : Type 1} → statement M
     put-decimal.Post
     (put-decimal-decimal-digit-requires t)
     (put-decimal-put-byte-requires t)
+    (put-decimal-same-length t)
     (put-decimal-returns t)
     (put-decimal-put-decimal-requires t)
     (put-decimal-put-byte-requires-2 t)
+    (put-decimal-same-length-2 t)
     (put-decimal-returns-2 t)

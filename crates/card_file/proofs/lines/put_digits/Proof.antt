@@ -9,12 +9,16 @@ put-bytes-requires : tie.Need-put-bytes-requires
 put-bytes-requires c κs = search needs
 
 put-sixteen-requires : tie.Need-put-sixteen-requires
-put-sixteen-requires c κs = search needs
+put-sixteen-requires c κs = omega arith
+
+same-length : tie.Need-same-length
+same-length c = omega arith
 
 returns : tie.Need-returns
 returns c =
-    let word = c .before .before .put-bytes .ensures in
-    (put-both word (c .put-sixteen .ensures .0), omega (arith, word .place, c .put-sixteen .ensures .1))
+    let word = c .before .before .before .before .before .before .put-bytes .ensures in
+    let digits = c .before .before .put-sixteen .ensures in
+    (put-both word (digits .0), omega (arith, word .place, digits .1))
 
 pub put-digits-spec : {M : Type 1} → statement M
-put-digits-spec = tie.close (tie.spec put-bytes-requires put-sixteen-requires returns)
+put-digits-spec = tie.close (tie.spec put-bytes-requires put-sixteen-requires same-length returns)

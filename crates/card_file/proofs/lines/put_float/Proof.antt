@@ -19,12 +19,16 @@ bits-of-requires c κs = search needs
 put-digits-requires : tie.Need-put-digits-requires
 put-digits-requires c κs = search needs
 
+same-length : tie.Need-same-length
+same-length c = omega arith
+
 returns : tie.Need-returns
 unfolding float bytes
 returns c =
-    let digits = c .put-digits .ensures in
-    (put-equal (ap (λ (n : ℕ). bytes " " ++ sixteenDigits n) (c .before .bits-of .ensures)) (digits .0), omega (arith, digits .1))
+    let digits = c .before .before .put-digits .ensures in
+    (put-equal (ap (λ (n : ℕ). bytes " " ++ sixteenDigits n) (c .before .before .before .bits-of .ensures)) (digits .0), omega (arith, digits .1))
 
 pub put-float-spec : {M : Type 1} → statement M
 put-float-spec =
-    tie.close (tie.spec slice-aggregate-put-digits bits-of-requires put-digits-requires returns)
+    tie.close
+    (tie.spec slice-aggregate-put-digits bits-of-requires put-digits-requires same-length returns)

@@ -32,19 +32,22 @@ put-count-requires c κs = search needs
 put-byte-requires : tie.Need-put-byte-requires
 put-byte-requires c κs = search needs
 
+same-length : tie.Need-same-length
+same-length c = omega arith
+
 returns : tie.Need-returns
 unfolding line bytes
 returns c =
-    let count = c .before .before in
-    let float3 = count .before .before .before .before in
-    let float2 = float3 .before .before in
-    let float1 = float2 .before .before in
-    let numbers = float1 .before .before .put-pair .ensures in
+    let count = c .before .before .before .before .before .before in
+    let float3 = count .before .before .before .before .before .before in
+    let float2 = float3 .before .before .before .before in
+    let float1 = float2 .before .before .before .before in
+    let numbers = float1 .before .before .before .before .put-pair .ensures in
     let x = float1 .put-float .ensures in
     let y = float2 .put-float2 .ensures in
     let radius = float3 .put-float3 .ensures in
     let ink = count .put-count .ensures in
-    let end = c .put-byte .ensures in (
+    let end = c .before .before .put-byte .ensures in (
       put-equal (simp append-assoc) (put-both (put-both (put-both (put-both (put-both (numbers .0) (x .0)) (y .0)) (radius .0)) (ink .0)) end),
       omega (arith, numbers .1, x .1, y .1, radius .1, ink .1, end .place),
       λ h. omega (arith, numbers .2 h, x .1, y .1, radius .1, ink .1, end .place),
@@ -62,4 +65,5 @@ put-line-spec =
     cast-put-count
     put-count-requires
     put-byte-requires
+    same-length
     returns)

@@ -1,35 +1,23 @@
--- `any_repeated` meets its contract. The invariant: a number stands twice if that was found, or if one of those from i on does.
-use Prim.Native.Nat.{ℕ, _+_, _-_, _≤_, _<_}
-use native.Mathlib.Numerals.{add-one}
+-- `any_repeated` meets its contract.
+use Prim.Native.Nat.{ℕ, _+_, _-_}
 use native.Mathlib.Omega.{arith}
 use borrow.Author.Needs.{needs}
-use mathlib.Core.Path.{_≡_, refl, sym, _∙_}
-use mathlib.Core.Bool.{Bool, _||_, or-false, or-assoc}
+use mathlib.Core.Path.{_≡_, refl}
 use mathlib.Core.Logic.{⊎-map}
 use mathlib.Core.List.{List}
-use lib.Dec.{eqb}
-use lib.ListN.{length, getD, take, drop, length-drop}
-use lib.Seq.{drop-cons, take-all, drop-length}
-use Rattle.scope.specs.Runs.{any}
+use lib.ListN.{length, take, drop, length-drop}
+use lib.Seq.{take-all}
 use Rattle.scope.specs.Refusals.{repeated}
-use Rattle.intake.proofs.Columns.{Flag, flag-is}
+use Rattle.intake.proofs.SoFar.{SoFar, one-seen, all-seen, repeated-from}
 use Rattle.intake.proofs.causes.any_repeated.Statement.{statement}
 use Rattle.intake.proofs.causes.any_repeated.Tie as tie
-
--- the number at i stands again after it, or one of those after it stands twice
-repeated-from : (ks : List ℕ) (i : ℕ) → i < length ks → repeated (drop i ks) ≡ any (eqb (getD ks i 0)) (drop (i + 1) ks) || repeated (drop (i + 1) ks)
-unfolding repeated
-repeated-from ks i h = rw (drop-cons ks i 0 h, add-one)
 
 -- what is lent of the list
 rest-taken : (ks : List ℕ) (i : ℕ) → take (length ks - (i + 1)) (drop (i + 1) ks) ≡ drop (i + 1) ks
 rest-taken ks i = take-all (length ks - (i + 1)) (drop (i + 1) ks) (rw length-drop (omega arith))
 
-looked-on : {test after : Bool} (before rest : Bool) → Flag test before after → before || (test || rest) ≡ after || rest
-looked-on {test} before rest came = rw (flag-is before came) (sym (or-assoc before test rest))
-
 abbrev Inv-loop : tie.InvT-loop
-Inv-loop list found₀ i₀ found i = (i ≤ length list) × (repeated list ≡ found || repeated (drop i list))
+Inv-loop list found₀ i₀ found i = SoFar repeated list i found
 
 abbrev μ-loop : tie.MeasureT-loop
 μ-loop list found₀ i₀ found i = length list - i
@@ -72,20 +60,12 @@ loop-again c =
     let s = c .before in
     let l = s .before .before .before .before .loop in
     let ks = s .before .before .before .before .before .before .args .list .now in
-    let h : l .i < length ks = omega arith in (
-      omega arith,
-      l .inv .1
-          ∙ rw (repeated-from ks (l .i) h, ← rest-taken ks (l .i), ← s .is-among .ensures)
-          (looked-on (l .found) _ (⊎-map (λ w. (w .0 .taken, w .1)) (λ w. (w .0 .left, w .1)) (c .if1 .came))),
-    )
+    one-seen repeated ks (l .i) (l .found) (omega arith) (rw (s .is-among .ensures, rest-taken ks (l .i)) (repeated-from ks (l .i) (omega arith))) (l .inv)
+    (⊎-map (λ w. (w .0 .taken, w .1)) (λ w. (w .0 .left, w .1)) (c .if1 .came))
 
 returns : tie.Need-returns Inv-loop μ-loop
 unfolding repeated
-returns c =
-    let l = c .before .loop in
-    let ks = c .before .before .before .args .list .now in
-    let all : l .i ≡ length ks = omega arith in
-    sym (l .inv .1 ∙ rw (all, drop-length ks) (or-false (l .found)))
+returns c = let l = c .before .loop in all-seen repeated (c .before .before .before .args .list .now) (l .i) refl (omega arith) (l .inv)
 
 pub any-repeated-spec : {M : Type 1} → statement M
 any-repeated-spec =

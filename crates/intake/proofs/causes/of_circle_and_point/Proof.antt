@@ -1,9 +1,8 @@
 -- `of_circle_and_point` meets its contract.
 use borrow.Author.Needs.{needs}
-use mathlib.Core.Path.{_∙_}
 use mathlib.Core.List.{[], _∷_}
 use Rattle.scope.specs.Refusals.{badCentre, badPoint}
-use Rattle.intake.proofs.CauseWords.{one-cause, either-cause, joined}
+use Rattle.intake.proofs.CauseWords.{flagged, either-cause, joined}
 use Rattle.intake.proofs.causes.of_circle_and_point.Statement.{statement}
 use Rattle.intake.proofs.causes.of_circle_and_point.Tie as tie
 
@@ -31,8 +30,8 @@ returns c =
     let q = s .before .before in
     let a = q .before .before .args in
     joined _ _ ((3, _) ∷ []) ((4, _) ∷ [])
-    (either-cause 3 (badCentre (a .c)) (badPoint (a .p)) _ _ (one-cause 3 _ _ (q .flag .ensures ∙ rw (q .before .bad-centre .ensures))) (one-cause 3 _ _ (s .flag2 .ensures ∙ rw (s .before .bad-point .ensures))))
-    (one-cause 4 _ _ (c .flag3 .ensures ∙ rw (c .before .bad-radius .ensures)))
+    (either-cause 3 (badCentre (a .c)) (badPoint (a .p)) _ _ (flagged 3 (q .flag .ensures) (q .before .bad-centre .ensures)) (flagged 3 (s .flag2 .ensures) (s .before .bad-point .ensures)))
+    (flagged 4 (c .flag3 .ensures) (c .before .bad-radius .ensures))
 
 pub of-circle-and-point-spec : {M : Type 1} → statement M
 of-circle-and-point-spec = tie.close (tie.spec bad-centre-requires flag-requires bad-point-requires flag-requires-2 bad-radius-requires flag-requires-3 returns)

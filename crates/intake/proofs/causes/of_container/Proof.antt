@@ -1,8 +1,7 @@
 -- `of_container` meets its contract.
 use borrow.Author.Needs.{needs}
-use mathlib.Core.Path.{_∙_}
 use mathlib.Core.List.{[], _∷_}
-use Rattle.intake.proofs.CauseWords.{one-cause, joined}
+use Rattle.intake.proofs.CauseWords.{flagged, joined}
 use Rattle.intake.proofs.causes.of_container.Statement.{statement}
 use Rattle.intake.proofs.causes.of_container.Tie as tie
 
@@ -21,7 +20,7 @@ flag-requires-2 c κs = search needs
 returns : tie.Need-returns
 returns c =
     let s = c .before .before in
-    joined _ _ ((3, _) ∷ []) ((7, _) ∷ []) (one-cause 3 _ _ (s .flag .ensures ∙ rw (s .before .bad-point .ensures))) (one-cause 7 _ _ (c .flag2 .ensures ∙ rw (c .before .bad-side .ensures)))
+    joined _ _ ((3, _) ∷ []) ((7, _) ∷ []) (flagged 3 (s .flag .ensures) (s .before .bad-point .ensures)) (flagged 7 (c .flag2 .ensures) (c .before .bad-side .ensures))
 
 pub of-container-spec : {M : Type 1} → statement M
 of-container-spec = tie.close (tie.spec bad-point-requires flag-requires bad-side-requires flag-requires-2 returns)

@@ -1,7 +1,6 @@
 -- `of_count` meets its contract.
 use borrow.Author.Needs.{needs}
-use mathlib.Core.Path.{_∙_}
-use Rattle.intake.proofs.CauseWords.{one-cause}
+use Rattle.intake.proofs.CauseWords.{flagged}
 use Rattle.intake.proofs.causes.of_count.Statement.{statement}
 use Rattle.intake.proofs.causes.of_count.Tie as tie
 
@@ -12,7 +11,7 @@ flag-requires : tie.Need-flag-requires
 flag-requires c κs = search needs
 
 returns : tie.Need-returns
-returns c = one-cause 1 _ _ (c .flag .ensures ∙ rw (c .before .too-many .ensures))
+returns c = flagged 1 (c .flag .ensures) (c .before .too-many .ensures)
 
 pub of-count-spec : {M : Type 1} → statement M
 of-count-spec = tie.close (tie.spec too-many-requires flag-requires returns)

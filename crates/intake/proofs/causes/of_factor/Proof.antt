@@ -1,7 +1,6 @@
 -- `of_factor` meets its contract.
 use borrow.Author.Needs.{needs}
-use mathlib.Core.Path.{_∙_}
-use Rattle.intake.proofs.CauseWords.{one-cause}
+use Rattle.intake.proofs.CauseWords.{flagged}
 use Rattle.intake.proofs.causes.of_factor.Statement.{statement}
 use Rattle.intake.proofs.causes.of_factor.Tie as tie
 
@@ -12,7 +11,7 @@ flag-requires : tie.Need-flag-requires
 flag-requires c κs = search needs
 
 returns : tie.Need-returns
-returns c = one-cause 6 _ _ (c .flag .ensures ∙ rw (c .before .bad-factor .ensures))
+returns c = flagged 6 (c .flag .ensures) (c .before .bad-factor .ensures)
 
 pub of-factor-spec : {M : Type 1} → statement M
 of-factor-spec = tie.close (tie.spec bad-factor-requires flag-requires returns)

@@ -1,7 +1,6 @@
 -- `of_inks` meets its contract.
 use borrow.Author.Needs.{needs}
-use mathlib.Core.Path.{_∙_}
-use Rattle.intake.proofs.CauseWords.{one-cause}
+use Rattle.intake.proofs.CauseWords.{flagged}
 use Rattle.intake.proofs.causes.of_inks.Statement.{statement}
 use Rattle.intake.proofs.causes.of_inks.Tie as tie
 
@@ -12,7 +11,7 @@ flag-requires : tie.Need-flag-requires
 flag-requires c κs = search needs
 
 returns : tie.Need-returns
-returns c = one-cause 14 _ _ (c .flag .ensures ∙ rw (c .before .any-repeated .ensures))
+returns c = flagged 14 (c .flag .ensures) (c .before .any-repeated .ensures)
 
 pub of-inks-spec : {M : Type 1} → statement M
 of-inks-spec = tie.close (tie.spec any-repeated-requires flag-requires returns)

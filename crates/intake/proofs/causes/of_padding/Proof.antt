@@ -1,7 +1,6 @@
 -- `of_padding` meets its contract.
 use borrow.Author.Needs.{needs}
-use mathlib.Core.Path.{_∙_}
-use Rattle.intake.proofs.CauseWords.{one-cause}
+use Rattle.intake.proofs.CauseWords.{flagged}
 use Rattle.intake.proofs.causes.of_padding.Statement.{statement}
 use Rattle.intake.proofs.causes.of_padding.Tie as tie
 
@@ -12,7 +11,7 @@ flag-requires : tie.Need-flag-requires
 flag-requires c κs = search needs
 
 returns : tie.Need-returns
-returns c = one-cause 8 _ _ (c .flag .ensures ∙ rw (c .before .bad-padding .ensures))
+returns c = flagged 8 (c .flag .ensures) (c .before .bad-padding .ensures)
 
 pub of-padding-spec : {M : Type 1} → statement M
 of-padding-spec = tie.close (tie.spec bad-padding-requires flag-requires returns)

@@ -1,9 +1,8 @@
 -- `of_pair` meets its contract.
 use borrow.Author.Needs.{needs}
-use mathlib.Core.Path.{_∙_}
 use mathlib.Core.List.{[], _∷_}
 use Rattle.scope.specs.Refusals.{badCentre, badRadius}
-use Rattle.intake.proofs.CauseWords.{one-cause, either-cause, joined}
+use Rattle.intake.proofs.CauseWords.{flagged, either-cause, joined}
 use Rattle.intake.proofs.causes.of_pair.Statement.{statement}
 use Rattle.intake.proofs.causes.of_pair.Tie as tie
 
@@ -38,8 +37,8 @@ returns c =
     let q = s .before .before in
     let a = q .before .before .args in
     joined _ _ ((3, _) ∷ []) ((4, _) ∷ [])
-    (either-cause 3 (badCentre (a .a)) (badCentre (a .b)) _ _ (one-cause 3 _ _ (q .flag .ensures ∙ rw (q .before .bad-centre .ensures))) (one-cause 3 _ _ (s .flag2 .ensures ∙ rw (s .before .bad-centre2 .ensures))))
-    (either-cause 4 (badRadius (a .a)) (badRadius (a .b)) _ _ (one-cause 4 _ _ (t .flag3 .ensures ∙ rw (t .before .bad-radius .ensures))) (one-cause 4 _ _ (c .flag4 .ensures ∙ rw (c .before .bad-radius2 .ensures))))
+    (either-cause 3 (badCentre (a .a)) (badCentre (a .b)) _ _ (flagged 3 (q .flag .ensures) (q .before .bad-centre .ensures)) (flagged 3 (s .flag2 .ensures) (s .before .bad-centre2 .ensures)))
+    (either-cause 4 (badRadius (a .a)) (badRadius (a .b)) _ _ (flagged 4 (t .flag3 .ensures) (t .before .bad-radius .ensures)) (flagged 4 (c .flag4 .ensures) (c .before .bad-radius2 .ensures)))
 
 pub of-pair-spec : {M : Type 1} → statement M
 of-pair-spec = tie.close (tie.spec bad-centre-requires flag-requires bad-centre-requires-2 flag-requires-2 bad-radius-requires flag-requires-3 bad-radius-requires-2 flag-requires-4 returns)

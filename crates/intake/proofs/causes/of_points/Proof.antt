@@ -1,8 +1,7 @@
 -- `of_points` meets its contract.
 use borrow.Author.Needs.{needs}
-use mathlib.Core.Path.{_∙_}
 use Rattle.scope.specs.Refusals.{badPoint}
-use Rattle.intake.proofs.CauseWords.{one-cause, either-cause}
+use Rattle.intake.proofs.CauseWords.{flagged, either-cause}
 use Rattle.intake.proofs.causes.of_points.Statement.{statement}
 use Rattle.intake.proofs.causes.of_points.Tie as tie
 
@@ -21,7 +20,8 @@ flag-requires-2 c κs = search needs
 returns : tie.Need-returns
 returns c =
     let s = c .before .before in
-    either-cause 3 (badPoint (s .before .before .args .p)) (badPoint (s .before .before .args .q)) _ _ (one-cause 3 _ _ (s .flag .ensures ∙ rw (s .before .bad-point .ensures))) (one-cause 3 _ _ (c .flag2 .ensures ∙ rw (c .before .bad-point2 .ensures)))
+    let a = s .before .before .args in
+    either-cause 3 (badPoint (a .p)) (badPoint (a .q)) _ _ (flagged 3 (s .flag .ensures) (s .before .bad-point .ensures)) (flagged 3 (c .flag2 .ensures) (c .before .bad-point2 .ensures))
 
 pub of-points-spec : {M : Type 1} → statement M
 of-points-spec = tie.close (tie.spec bad-point-requires flag-requires bad-point-requires-2 flag-requires-2 returns)

@@ -1,7 +1,7 @@
 -- `find_parents` meets its contract: the parents of the first i circles stand in the list, and while `any` is false none of them has one.
 use Prim.Native.Nat.{_-_, _<_, ℕ, _≤_}
 use native.Mathlib.Omega.{arith}
-use mathlib.Core.Bool.{true, false, false≢true}
+use mathlib.Core.Bool.{false, false≢true}
 use mathlib.Core.Logic.{⊎-elim}
 use mathlib.Core.Option.{none}
 use mathlib.Core.Path.{refl, sym, _∙_, _≡_}
