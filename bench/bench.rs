@@ -1,9 +1,10 @@
 // Times the whole layout of the port and of the Rust on the same inputs, in one run, and prints port over Rust.
 // Each workload is run in rounds, the two sides in turn; the figure is the median of the rounds' ratios.
-#[path = "../target/bench/eunoia.rs"]
+#[path = "../target/bench/eunoia_at_1.618.rs"]
 mod eunoia;
+#[path = "../target/bench/eunoia_at_0.5.rs"]
+mod eunoia_at_half;
 
-use eunoia::{Circle, Point, normalize_layout_with_clusters};
 use std::collections::BTreeMap;
 use std::hint::black_box;
 use std::time::Instant;
@@ -42,12 +43,14 @@ unsafe extern "C" {
         masks_len: usize,
         areas: *const f64,
         areas_len: usize,
+        proportion: f64,
     ) -> Answer;
     safe fn rundhefja_root(x: f64) -> Length;
 }
 
 struct Card {
     factor: f64,
+    proportion: f64,
     circles: Vec<Record>,
     masks: Vec<u64>,
     areas: Vec<f64>,
@@ -60,6 +63,7 @@ impl Card {
         regions.dedup_by_key(|r| r.0);
         Card {
             factor: 0.015,
+            proportion: eunoia::Circle::CONSTANT,
             // any two inks differ, so that all of them are looked at; 40503 is odd
             circles: (0u16..).zip(circles).map(|(i, &[x, y, radius])| Record { x, y, radius, ink: i.wrapping_mul(40503) }).collect(),
             masks: regions.iter().map(|r| r.0).collect(),
@@ -77,6 +81,7 @@ impl Card {
                 self.masks.len(),
                 self.areas.as_ptr(),
                 self.areas.len(),
+                self.proportion,
             )
         };
         assert_eq!(black_box(answer).refusal, 0);
@@ -85,12 +90,43 @@ impl Card {
     fn areas_of(&self) -> BTreeMap<usize, f64> {
         self.masks.iter().zip(&self.areas).map(|(m, a)| (*m as usize, *a)).collect()
     }
-    fn rust(&self, areas: &BTreeMap<usize, f64>) -> Vec<Circle> {
-        let mut shapes: Vec<Circle> = self.circles.iter().map(|c| Circle::new(Point::new(c.x, c.y), c.radius)).collect();
-        normalize_layout_with_clusters(&mut shapes, self.factor, Some(areas));
+    fn rust<S: Shape>(&self, areas: &BTreeMap<usize, f64>) -> Vec<S> {
+        let mut shapes: Vec<S> = self.circles.iter().map(|c| S::of(c.x, c.y, c.radius)).collect();
+        S::lay_out(&mut shapes, self.factor, areas);
         shapes
     }
+    fn at<S: Shape>(self) -> Card {
+        Card { proportion: S::CONSTANT, ..self }
+    }
 }
+
+// A circle of the Rust, by the constant that its packing has.
+trait Shape: Sized {
+    const CONSTANT: f64;
+    fn of(x: f64, y: f64, radius: f64) -> Self;
+    fn numbers(&self) -> [f64; 3];
+    fn lay_out(shapes: &mut [Self], factor: f64, areas: &BTreeMap<usize, f64>);
+}
+
+macro_rules! shape {
+    ($module:ident, $constant:expr) => {
+        impl Shape for $module::Circle {
+            const CONSTANT: f64 = $constant;
+            fn of(x: f64, y: f64, radius: f64) -> Self {
+                Self::new($module::Point::new(x, y), radius)
+            }
+            fn numbers(&self) -> [f64; 3] {
+                [self.center().x(), self.center().y(), self.radius()]
+            }
+            fn lay_out(shapes: &mut [Self], factor: f64, areas: &BTreeMap<usize, f64>) {
+                $module::normalize_layout_with_clusters(shapes, factor, Some(areas));
+            }
+        }
+    };
+}
+
+shape!(eunoia, 1.618);
+shape!(eunoia_at_half, 0.5);
 
 struct Random(u64);
 
@@ -183,9 +219,14 @@ fn report(name: &str, calls: usize, mut port: impl FnMut(), mut rust: impl FnMut
 }
 
 fn layouts(name: &str, cards: Vec<Card>, repeats: usize) {
+    layouts_at::<eunoia::Circle>(name, cards, repeats);
+}
+
+fn layouts_at<S: Shape>(name: &str, cards: Vec<Card>, repeats: usize) {
+    let cards: Vec<_> = cards.into_iter().map(Card::at::<S>).collect();
     let maps: Vec<_> = cards.iter().map(Card::areas_of).collect();
     for (card, map) in cards.iter().zip(&maps) {
-        let theirs: Vec<_> = card.rust(map).iter().map(|c| [c.center().x(), c.center().y(), c.radius()]).collect();
+        let theirs: Vec<_> = card.rust::<S>(map).iter().map(S::numbers).collect();
         let placed = card.port();
         let ours: Vec<_> = placed.iter().map(|c| [c.x, c.y, c.radius]).collect();
         assert_eq!(ours, theirs, "{name}: the answers differ");
@@ -195,13 +236,15 @@ fn layouts(name: &str, cards: Vec<Card>, repeats: usize) {
         name,
         repeats * cards.len(),
         || (0..repeats).for_each(|_| cards.iter().for_each(|c| drop(black_box(c.port())))),
-        || (0..repeats).for_each(|_| cards.iter().zip(&maps).for_each(|(c, m)| drop(black_box(c.rust(m))))),
+        || (0..repeats).for_each(|_| cards.iter().zip(&maps).for_each(|(c, m)| drop(black_box(c.rust::<S>(m))))),
     );
 }
 
 fn main() {
     let random = &mut Random(2026);
     layouts("64 circles in many clusters", (0..4).map(|_| many_clusters(random)).collect(), 50);
+    let again = &mut Random(2026);
+    layouts_at::<eunoia_at_half::Circle>("the same at 1/2, in taller grids", (0..4).map(|_| many_clusters(again)).collect(), 50);
     layouts("64 circles in one cluster, 2,048 regions", (0..2).map(|_| one_cluster(random)).collect(), 20);
     layouts("32 parents with a child each", (0..4).map(|_| parents(random)).collect(), 10);
     layouts("small cards, 2 to 6 circles", (0..100).map(|_| small(random)).collect(), 20);

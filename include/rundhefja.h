@@ -16,6 +16,9 @@
  * A caller of the rundhefja_card_text that returned a size_t is compiled anew; takes the length out of the struct that comes back now; and, where it lends fewer
  * than RUNDHEFJA_MAX_TEXT bytes, looks at the refusal: a text that does not fit gives 15 and the length 0, where as much as fits was written before.
  *
+ * A caller of the rundhefja_layout, rundhefja_pack or rundhefja_columns that took no proportion is compiled anew, and gives RUNDHEFJA_PROPORTION as the last
+ * value to get what it got before.
+ *
  * What is proved holds in IEEE 754's default state, round to nearest and with subnormals, in which a program starts unless it is linked with -ffast-math or the
  * like. In another, last bits change, and a side or a factor just below 0 passes for 0. rundhefja_floats_ok tells.
  *
@@ -23,7 +26,8 @@
  * or above 2^20 in size; 4 a radius that is not finite or outside 2^-20 to 2^20; 5 masks that do not rise strictly; 6 a factor that is not finite or outside
  * 0 to 1; 7 a side that is not finite or outside 0 to 2^23; 8 a padding that is not finite or outside 0 to 2^26; 9 a tag unknown or out of place; 10 a
  * field's length wrong for its tag; 11 a file that ends inside a field; 12 the root of NaN or of a number below 0; 13 masks and areas of unequal number;
- * 14 two circles of one run, or of one file, that have the same ink; 15 a lent list that is too short for what is to be written.
+ * 14 two circles of one run, or of one file, that have the same ink; 15 a lent list that is too short for what is to be written; 16 a proportion that is not
+ * finite or outside 1/4 to 4.
  * The lowest that applies comes back, but 13 before 2; a file and a field are checked front to back, and a file's values after that. */
 #ifndef RUNDHEFJA_H
 #define RUNDHEFJA_H
@@ -41,6 +45,9 @@ extern "C" {
 #define RUNDHEFJA_MAX_INPUT 65536
 #define RUNDHEFJA_MAX_TEXT 4096
 #define RUNDHEFJA_MAX_FILE 40779 /* a card's longest: 64 circles and 2,048 regions */
+
+/* A grid's proportion is about its columns to its rows, any from 1/4, for narrow stock, to 4, the ends inside. This is the one that program card keeps. */
+#define RUNDHEFJA_PROPORTION 1.618
 
 /* The most stack that a call uses, in bytes: rundhefja_card_text, and any other. */
 #define RUNDHEFJA_STACK_CARD_TEXT 106496
@@ -143,12 +150,12 @@ typedef struct {
  *
  * Moves children off their parents' centres, turns and mirrors each cluster, packs the clusters in a grid and centres the whole. Rewrites the circles' centres;
  * radii, inks and the order stay. Region j has the circles of the bits of masks[j], bit i for circle i, and the area areas[j]; masks rise strictly. factor says
- * how much room lies between clusters. Refuses 1, 13, 2, 3, 4, 5, 6, 14.
+ * how much room lies between clusters, proportion how their grid is cut. Refuses 1, 13, 2, 3, 4, 5, 6, 14, 16.
  *
  * Proved of each answer, to 1/65,536: circles of different clusters are the padding apart on one axis at least; circles of one cluster that were not moved keep
  * their distance; a moved circle does not reach past its parent; two circles have one number exactly if a chain of regions joins them. */
 rundhefja_layout_result rundhefja_layout(rundhefja_circle *circles, size_t circles_len, double factor, const uint64_t *masks, size_t masks_len,
-                                         const double *areas, size_t areas_len);
+                                         const double *areas, size_t areas_len, double proportion);
 
 /* Moves the container to the origin, the circles along, and the circles to its middle, unless they reach past its edge. Rewrites the circles' centres. Refuses
  * 1, 3, 4, 7, 14. */
@@ -163,11 +170,12 @@ rundhefja_clusters_result rundhefja_clusters(const rundhefja_circle *circles, si
  * Regions as above. Refuses 1, 13, 2, 5. */
 rundhefja_clusters_result rundhefja_area_clusters(size_t n, const uint64_t *masks, size_t masks_len, const double *areas, size_t areas_len, double tolerance);
 
-/* Rectangles in a grid, the largest first; their centres are not looked at. Refuses 1, 7, 8. */
-rundhefja_pack_result rundhefja_pack(const rundhefja_rectangle *rectangles, size_t rectangles_len, double padding);
+/* Rectangles in a grid, the largest first; their centres are not looked at. Refuses 1, 7, 8, 16. */
+rundhefja_pack_result rundhefja_pack(const rundhefja_rectangle *rectangles, size_t rectangles_len, double padding, double proportion);
 
-/* How many columns the grid of k rectangles has. Refuses 1. */
-rundhefja_count rundhefja_columns(size_t k);
+/* How many columns the grid of k rectangles has: root(k) times root(proportion), raised to a whole number; 64 have 4 at 1/4, 11 at 1.618 and 16 at 4. A few
+ * may have more columns than there are rectangles. Refuses 1, 16. */
+rundhefja_count rundhefja_columns(size_t k, double proportion);
 
 /* The double nearest the exact root; -0 and infinity give themselves. Refuses 12. */
 rundhefja_length rundhefja_root(double x);

@@ -14,7 +14,7 @@ int main(void) {
     const double areas[] = {1178, 78, 640, 390, 60};
     int i;
 
-    rundhefja_layout_result r = rundhefja_layout(inks, INKS, 0.1, masks, 5, areas, 5);
+    rundhefja_layout_result r = rundhefja_layout(inks, INKS, 0.1, masks, 5, areas, 5, RUNDHEFJA_PROPORTION);
     if (r.refusal != 0) {
         printf("refused %d\n", r.refusal);
         return 1;

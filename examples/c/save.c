@@ -112,7 +112,7 @@ static const char *name_of(int ink) {
 }
 
 static int show(card *c) {
-    const rundhefja_layout_result r = rundhefja_layout(c->circle, c->circles, c->factor, c->mask, c->regions, c->area, c->regions);
+    const rundhefja_layout_result r = rundhefja_layout(c->circle, c->circles, c->factor, c->mask, c->regions, c->area, c->regions, RUNDHEFJA_PROPORTION);
     size_t i;
     if (r.refusal != 0) {
         fprintf(stderr, "the card cannot be laid out: refused %d\n", r.refusal);

@@ -34,11 +34,15 @@ unsafe extern "C" {
         masks_len: usize,
         areas: *const f64,
         areas_len: usize,
+        proportion: f64,
     ) -> Layout;
 }
 
+// About the columns to the rows of the grid of clusters, from 1/4 to 4: the one that program `card` keeps.
+const PROPORTION: f64 = 1.618;
+
 // Rewrites the circles, or gives the refusal's number and leaves them as they are.
-fn layout(circles: &mut [Circle], factor: f64, masks: &[u64], areas: &[f64]) -> Result<Layout, u8> {
+fn layout(circles: &mut [Circle], factor: f64, masks: &[u64], areas: &[f64], proportion: f64) -> Result<Layout, u8> {
     // A slice's pointer is never null, and the borrow checker keeps the circles apart from the rest.
     let r = unsafe {
         rundhefja_layout(
@@ -49,6 +53,7 @@ fn layout(circles: &mut [Circle], factor: f64, masks: &[u64], areas: &[f64]) -> 
             masks.len(),
             areas.as_ptr(),
             areas.len(),
+            proportion,
         )
     };
     if r.refusal == 0 { Ok(r) } else { Err(r.refusal) }
@@ -62,7 +67,7 @@ fn main() {
     // ocean alone, ocean and teal, rust alone, sand alone, rust and sand
     let masks = [1, 3, 4, 8, 12];
     let areas = [1178.0, 78.0, 640.0, 390.0, 60.0];
-    match layout(&mut inks, 0.1, &masks, &areas) {
+    match layout(&mut inks, 0.1, &masks, &areas, PROPORTION) {
         Err(refusal) => println!("refused {refusal}"),
         Ok(l) => {
             println!("{} groups, {:.3} mm apart", l.count, l.padding);

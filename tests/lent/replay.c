@@ -102,11 +102,11 @@ static int is_rectangle(record *r, rundhefja_rectangle b) {
 
 static int is_bounds(record *r, rundhefja_bounds b) { return is_double(r, b.x_min) && is_double(r, b.x_max) && is_double(r, b.y_min) && is_double(r, b.y_max); }
 
-static int is_grouping(record *r, rundhefja_clusters_result c) {
+static int is_grouping(record *r, uint8_t refusal, size_t count, const uint8_t *numbers) {
     size_t i;
-    if (!is_byte(r, c.refusal) || !is_byte(r, c.count)) return 0;
+    if (!is_byte(r, refusal) || !is_byte(r, count)) return 0;
     for (i = 0; i < RUNDHEFJA_MAX_CIRCLES; i++) {
-        if (!is_byte(r, c.numbers[i])) return 0;
+        if (!is_byte(r, numbers[i])) return 0;
     }
     return 1;
 }
@@ -252,9 +252,10 @@ static int boxes(record *r) {
            && is_bounds(r, rundhefja_circle_bounds(c)) && is_bounds(r, rundhefja_rectangle_bounds(d)) && ended(r);
 }
 
-/* How many rectangles; the refusal, the columns. */
+/* How many rectangles, the proportion; the refusal, the columns. */
 static int columns(record *r) {
-    rundhefja_count c = rundhefja_columns(take(r, 1));
+    size_t k = take(r, 1);
+    rundhefja_count c = rundhefja_columns(k, take_double(r));
     return is_byte(r, c.refusal) && is_byte(r, c.value) && ended(r);
 }
 
@@ -266,7 +267,7 @@ static int clusters(record *r) {
     rundhefja_clusters_result c;
     if (!lend_next(lend_circles, &circles, r, n * CIRCLE_BYTES)) return 0;
     c = rundhefja_clusters(run(&circles), n);
-    return is_grouping(r, c) && ended(r) && kept(&circles, 0);
+    return is_grouping(r, c.refusal, c.count, c.numbers) && ended(r) && kept(&circles, 0);
 }
 
 /* How many circles, masks and areas; the tolerance, the masks, the areas; the clusters. */
@@ -276,18 +277,19 @@ static int area_clusters(record *r) {
     rundhefja_clusters_result c;
     if (!lend_next(lend, &masks, r, m * sizeof(uint64_t)) || !lend_next(lend_doubles, &areas, r, a * sizeof(double))) return 0;
     c = rundhefja_area_clusters(n, run(&masks), m, run(&areas), a, tolerance);
-    return is_grouping(r, c) && ended(r) && kept(&masks, 0) && kept(&areas, 0);
+    return is_grouping(r, c.refusal, c.count, c.numbers) && ended(r) && kept(&masks, 0) && kept(&areas, 0);
 }
 
 static int is_blank(rundhefja_rectangle b) { return bits(b.center.x) == 0 && bits(b.center.y) == 0 && bits(b.width) == 0 && bits(b.height) == 0; }
 
-/* How many rectangles, the padding, the rectangles; the refusal, and where there is none the rectangles placed. What the answer does not use is 0. */
+/* How many rectangles, the padding, the proportion, the rectangles; the refusal, and where there is none the rectangles placed. What the answer does not use
+ * is 0. */
 static int pack(record *r) {
     size_t n = take(r, 1), i;
-    double padding = take_double(r);
+    double padding = take_double(r), proportion = take_double(r);
     rundhefja_pack_result p;
     if (!lend_next(lend_doubles, &rectangles, r, n * sizeof(rundhefja_rectangle))) return 0;
-    p = rundhefja_pack(run(&rectangles), n, padding);
+    p = rundhefja_pack(run(&rectangles), n, padding, proportion);
     if (!is_byte(r, p.refusal)) return 0;
     for (i = 0; i < RUNDHEFJA_MAX_CIRCLES; i++) {
         if (p.refusal == 0 && i < n ? !is_rectangle(r, p.rectangles[i]) : !is_blank(p.rectangles[i])) return 0;
@@ -307,6 +309,34 @@ static int container(record *r) {
         if (!is_circle(r, circle_at(i))) return 0;
     }
     return ended(r) && kept(&circles, c.refusal == 0 ? circles.size : 0) && inks_kept();
+}
+
+/* Lays out the lent circles with the lent regions. 0 where a byte was not kept, or an answer has what it does not use. */
+static int lay_out(double factor, double proportion, rundhefja_layout_result *l) {
+    const size_t n = circles.size / sizeof(rundhefja_circle);
+    size_t i;
+    *l = rundhefja_layout(run(&circles), n, factor, run(&masks), masks.size / sizeof(uint64_t), run(&areas), areas.size / sizeof(double), proportion);
+    if (!kept(&circles, l->refusal == 0 ? circles.size : 0) || !inks_kept() || !kept(&masks, 0) || !kept(&areas, 0)) return 0;
+    if (l->refusal != 0 && (l->count != 0 || l->moved != 0 || bits(l->padding) != 0)) return 0;
+    for (i = l->refusal == 0 ? n : 0; i < RUNDHEFJA_MAX_CIRCLES; i++) {
+        if (l->numbers[i] != 0) return 0;
+    }
+    return 1;
+}
+
+/* How many circles, masks and areas; the proportion, the factor, the circles, the masks, the areas; the refusal, the clusters, the mask of the moved circles,
+ * the padding and, where they fit a layout, the circles. */
+static int layout(record *r) {
+    size_t n = take(r, 1), m = take(r, 2), a = take(r, 2), i;
+    double proportion = take_double(r), factor = take_double(r);
+    rundhefja_layout_result l;
+    if (!lend_next(lend_circles, &circles, r, n * CIRCLE_BYTES) || !lend_next(lend, &masks, r, m * sizeof(uint64_t))) return 0;
+    if (!lend_next(lend_doubles, &areas, r, a * sizeof(double)) || !lay_out(factor, proportion, &l)) return 0;
+    if (!is_grouping(r, l.refusal, l.count, l.numbers) || !is_word(r, l.moved) || !is_double(r, l.padding)) return 0;
+    for (i = 0; n <= RUNDHEFJA_MAX_CIRCLES && i < n; i++) {
+        if (!is_circle(r, circle_at(i))) return 0;
+    }
+    return ended(r);
 }
 
 /* ---- the card file */
@@ -369,13 +399,8 @@ static size_t text_of_parts(const parts *p, uint8_t refusal, char *out) {
         lend_circles(&circles, p->circle, p->circles * CIRCLE_BYTES);
         lend(&masks, p->mask, p->regions * sizeof *p->mask);
         lend_doubles(&areas, p->area, p->regions * sizeof *p->area);
-        l = rundhefja_layout(run(&circles), p->circles, p->factor, run(&masks), p->regions, run(&areas), p->regions);
+        if (!lay_out(p->factor, RUNDHEFJA_PROPORTION, &l)) return 0;
         refusal = l.refusal;
-        if (!kept(&circles, refusal == 0 ? circles.size : 0) || !inks_kept() || !kept(&masks, 0) || !kept(&areas, 0)) return 0;
-        if (refusal != 0 && (l.count != 0 || l.moved != 0 || bits(l.padding) != 0)) return 0;
-        for (i = refusal == 0 ? p->circles : 0; i < RUNDHEFJA_MAX_CIRCLES; i++) {
-            if (l.numbers[i] != 0) return 0;
-        }
     }
     if (refusal != 0) return sprintf(out, "refused %u\n", refusal);
     n += sprintf(out, "circles %zu clusters %zu moved %016" PRIx64 " padding %016" PRIx64 "\n", p->circles, l.count, l.moved, bits(l.padding));
@@ -496,6 +521,7 @@ static const struct {
     {"packing", pack},
     {"container", container},
     {"whole cards", card},
+    {"whole layouts", layout},
     {"fields", field},
 };
 

@@ -189,13 +189,56 @@ static void tests(void) {
     check(rundhefja_intersects(circle(0, 0, 2, 7), circle(4, 0, of(PAYLOAD), 7)).refusal == 4, "a radius that is a NaN");
 }
 
+/* ---- the proportion */
+
+/* The doubles next to a positive one. */
+static double above(double x) { return of(bits(x) + 1); }
+static double below(double x) { return of(bits(x) - 1); }
+
+/* Ten that are refused; `bad` is one of them, by its number. */
+enum { BAD = 10 };
+
+static double bad(int i) {
+    switch (i) {
+    case 0: return below(0.25);
+    case 1: return above(4);
+    case 2: return of(PAYLOAD);
+    case 3: return of(0xfff8000000000000u);
+    case 4: return of(0x7ff0000000000000u);
+    case 5: return of(0xfff0000000000000u);
+    case 6: return 0;
+    case 7: return -0.0;
+    case 8: return -RUNDHEFJA_PROPORTION;
+    default: return of(1); /* the smallest double */
+    }
+}
+
+static int columns_are(size_t k, double proportion, size_t columns) {
+    rundhefja_count r = rundhefja_columns(k, proportion);
+    return r.refusal == 0 && r.value == columns;
+}
+
+static int columns_refused(size_t k, double proportion, uint8_t refusal) {
+    rundhefja_count r = rundhefja_columns(k, proportion);
+    return r.refusal == refusal && r.value == 0;
+}
+
 static void columns(void) {
-    rundhefja_count r = rundhefja_columns(64);
-    check(r.refusal == 0 && r.value == 11, "the columns of 64 rectangles");
-    r = rundhefja_columns(0);
-    check(r.refusal == 0 && r.value == 0, "the columns of none");
-    r = rundhefja_columns(65);
-    check(r.refusal == 1 && r.value == 0, "the columns of 65");
+    int i;
+    check(columns_are(64, RUNDHEFJA_PROPORTION, 11), "the columns of 64 rectangles");
+    check(columns_are(0, RUNDHEFJA_PROPORTION, 0) && columns_are(0, 0.25, 0) && columns_are(0, 4, 0), "the columns of none");
+    check(columns_refused(65, RUNDHEFJA_PROPORTION, 1) && columns_refused(SIZE_MAX, 1, 1), "the columns of 65");
+    check(columns_are(64, 0.25, 4) && columns_are(64, 4, 16), "the columns of 64 at both ends");
+    check(columns_are(64, above(0.25), 4) && columns_are(64, above(above(0.25)), 5) && columns_are(64, below(4), 16), "the columns of 64 next to the ends");
+    /* the product of the two rounded roots: the root of the product would give 1, 2 and 2 */
+    check(columns_are(2, 0.5, 2) && columns_are(2, 2, 3) && columns_are(8, 0.5, 3), "the columns where a rounding decides");
+    check(columns_are(1, 1, 1) && columns_are(1, above(1), 1) && columns_are(1, above(above(1)), 2) && columns_are(1, 2, 2), "the columns of 1");
+    check(columns_are(2, below(0.5), 1) && columns_are(3, 0.3333333333333335, 1) && columns_are(4, above(0.25), 1), "one column");
+    check(columns_are(1, 4, 2) && columns_are(2, 4, 3) && columns_are(3, 4, 4) && columns_are(4, 4, 4), "more columns than there are rectangles");
+    for (i = 0; i < BAD; i++) {
+        check(columns_refused(64, bad(i), 16) && columns_refused(1, bad(i), 16) && columns_refused(0, bad(i), 16), "columns at a proportion out of range");
+        check(columns_refused(65, bad(i), 1), "16 after 1, of columns");
+    }
 }
 
 static void clusters(void) {
@@ -231,6 +274,16 @@ static void area_clusters(void) {
     check(rundhefja_area_clusters(4, masks, 3, areas, 3, 0).refusal == 5, "masks that do not rise");
 }
 
+static int pack_refused(const rundhefja_rectangle *boxes, size_t n, double padding, double proportion, uint8_t refusal) {
+    rundhefja_pack_result r = rundhefja_pack(boxes, n, padding, proportion);
+    size_t i;
+    for (i = 0; i < RUNDHEFJA_MAX_CIRCLES; i++) {
+        const rundhefja_rectangle b = r.rectangles[i];
+        if (!is_zero(b.center.x) || !is_zero(b.center.y) || !is_zero(b.width) || !is_zero(b.height)) return 0;
+    }
+    return r.refusal == refusal;
+}
+
 static void pack(void) {
     rundhefja_rectangle boxes[65];
     rundhefja_pack_result r;
@@ -238,15 +291,40 @@ static void pack(void) {
     for (i = 0; i < 65; i++) boxes[i] = rectangle(of(PAYLOAD), 9, 1, 1);
     boxes[0] = rectangle(9, 9, 4, 2);
     boxes[1] = rectangle(9, of(PAYLOAD), 2, 2);
-    r = rundhefja_pack(boxes, 2, 1);
+    r = rundhefja_pack(boxes, 2, 1, RUNDHEFJA_PROPORTION);
     check(r.refusal == 0 && r.rectangles[0].center.x == 2.5 && r.rectangles[0].center.y == 1.5 && r.rectangles[0].width == 4 && r.rectangles[0].height == 2, "the first of two boxes");
     check(r.rectangles[1].center.x == 6.5 && r.rectangles[1].center.y == 1.5 && r.rectangles[1].width == 2 && is_zero(r.rectangles[2].width), "the second");
-    r = rundhefja_pack(boxes, 2, -1);
-    check(r.refusal == 8 && is_zero(r.rectangles[0].center.x) && is_zero(r.rectangles[0].width), "a padding below 0");
-    check(rundhefja_pack(boxes, 65, 1).refusal == 1, "65 boxes");
-    check(rundhefja_pack(boxes, 64, 1).refusal == 0, "64 boxes");
+    r = rundhefja_pack(boxes, 2, 1, 0.25);
+    check(r.refusal == 0 && r.rectangles[0].center.x == 2.5 && r.rectangles[0].center.y == 1.5, "the first of two boxes, at 1/4");
+    check(r.rectangles[1].center.x == 2.5 && r.rectangles[1].center.y == 4.5, "the second below it");
+    r = rundhefja_pack(boxes, 2, 1, 4);
+    check(r.refusal == 0 && r.rectangles[1].center.x == 6.5 && r.rectangles[1].center.y == 1.5, "the second beside it, at 4");
+    check(pack_refused(boxes, 2, -1, RUNDHEFJA_PROPORTION, 8), "a padding below 0");
+    check(pack_refused(boxes, 65, 1, RUNDHEFJA_PROPORTION, 1), "65 boxes");
+    check(rundhefja_pack(boxes, 64, 1, RUNDHEFJA_PROPORTION).refusal == 0, "64 boxes");
+    check(rundhefja_pack(boxes, 64, 1, 0.25).refusal == 0 && rundhefja_pack(boxes, 64, 1, 4).refusal == 0, "64 boxes at both ends");
+    check(rundhefja_pack(boxes, 0, 1, 0.25).refusal == 0 && rundhefja_pack(boxes, 0, 1, 4).refusal == 0, "no boxes at both ends");
+    for (i = 0; i < BAD; i++) {
+        check(pack_refused(boxes, 64, 1, bad(i), 16) && pack_refused(boxes, 1, 0, bad(i), 16) && pack_refused(boxes, 0, 0, bad(i), 16), "16, of a packing");
+        check(pack_refused(boxes, 64, of(PAYLOAD), bad(i), 8) && pack_refused(boxes, 0, -1, bad(i), 8), "16 after 8");
+        check(pack_refused(boxes, 65, 1, bad(i), 1), "16 after 1, of a packing");
+    }
     boxes[63].height = -1;
-    check(rundhefja_pack(boxes, 64, 1).refusal == 7, "a side below 0");
+    check(pack_refused(boxes, 64, 1, RUNDHEFJA_PROPORTION, 7) && pack_refused(boxes, 64, 1, 5, 7) && pack_refused(boxes, 64, -1, 5, 7), "a side below 0");
+}
+
+/* The ends of the ranges of sides and padding, at both ends of the proportion. */
+static void pack_ends(void) {
+    static const double ends[] = {0.25, 4};
+    size_t i;
+    for (i = 0; i < 2; i++) {
+        rundhefja_rectangle box = rectangle(0, 0, 8388608, 0);
+        rundhefja_pack_result r = rundhefja_pack(&box, 1, 67108864, ends[i]);
+        check(r.refusal == 0 && r.rectangles[0].center.x == 37748736 && r.rectangles[0].center.y == 33554432, "the largest side and padding");
+        check(pack_refused(&box, 1, above(67108864), ends[i], 8), "a padding above 2^26");
+        box.height = above(8388608);
+        check(pack_refused(&box, 1, 1, ends[i], 7), "a side above 2^23");
+    }
 }
 
 static void container(void) {
@@ -277,7 +355,7 @@ static void layout(void) {
     int i;
     for (i = 0; i < 65; i++) circles[i] = circle(0, 0, 2, 1 + i);
     circles[1].center.y = 3;
-    r = rundhefja_layout(circles, 2, 0.5, masks, 3, areas, 3);
+    r = rundhefja_layout(circles, 2, 0.5, masks, 3, areas, 3, RUNDHEFJA_PROPORTION);
     check(r.refusal == 0 && r.count == 1 && r.moved == 0 && is_zero(r.padding) && all_zero(r.numbers, 0), "one cluster");
     check(is_circle(circles[0], -1.5, 0, 2, 1) && is_circle(circles[1], 1.5, 0, 2, 2) && is_circle(circles[2], 0, 0, 2, 3), "its circles, and no other");
     {
@@ -285,28 +363,28 @@ static void layout(void) {
         const double two[2] = {10, 3};
         circles[0] = circle(0, 0, 4, 65535);
         circles[1] = circle(0, 0, 1, 0);
-        r = rundhefja_layout(circles, 2, 0, shared, 2, two, 2);
+        r = rundhefja_layout(circles, 2, 0, shared, 2, two, 2, RUNDHEFJA_PROPORTION);
         check(r.refusal == 0 && r.moved == 2 && circles[0].ink == 65535 && circles[1].ink == 0, "a child that is moved, with its ink");
         check(circles[1].center.x - circles[0].center.x > 1.5 - 1e-12 && circles[1].center.x - circles[0].center.x < 1.5 + 1e-12 && circles[1].center.y == circles[0].center.y, "half-way to its parent's edge");
     }
     circles[0] = circle(0, 0, 1, 1);
     circles[1] = circle(10, 0, 1, 2);
-    r = rundhefja_layout(circles, 2, 1, masks, 0, areas, 0);
+    r = rundhefja_layout(circles, 2, 1, masks, 0, areas, 0, RUNDHEFJA_PROPORTION);
     check(r.refusal == 0 && r.count == 2 && r.numbers[0] == 0 && r.numbers[1] == 1 && all_zero(r.numbers, 2) && bits(r.padding) == 0x4006a09e667f3bcdu, "two clusters, the root of 8 between them");
-    check(rundhefja_layout(circles, 0, 1, masks, 0, areas, 0).refusal == 0, "no circles to lay out");
+    check(rundhefja_layout(circles, 0, 1, masks, 0, areas, 0, RUNDHEFJA_PROPORTION).refusal == 0, "no circles to lay out");
     circles[2].radius = of(PAYLOAD);
     circles[3].center.x = of(PAYLOAD + 1);
     circles[4] = circle(2097152, 0, 1, 5);
     memcpy(was, circles, sizeof was);
-    r = rundhefja_layout(circles, 3, 0.5, masks, 3, areas, 3);
+    r = rundhefja_layout(circles, 3, 0.5, masks, 3, areas, 3, RUNDHEFJA_PROPORTION);
     check(r.refusal == 4 && r.count == 0 && r.moved == 0 && is_zero(r.padding) && all_zero(r.numbers, 0), "a radius that is a NaN, to lay out");
-    check(rundhefja_layout(circles, 4, 0.5, masks, 3, areas, 3).refusal == 3, "a centre that is a NaN, to lay out");
-    check(rundhefja_layout(circles + 4, 1, 0.5, masks, 3, areas, 3).refusal == 3, "a coordinate out of range, to lay out");
-    check(rundhefja_layout(circles, 2, 1.5, masks, 3, areas, 3).refusal == 6, "a factor out of range");
-    check(rundhefja_layout(circles, 2, 0.5, masks, 3, areas, 2).refusal == 13, "masks and areas of unequal number, to lay out");
-    check(rundhefja_layout(circles, 2, 0.5, masks, 4, areas, 4).refusal == 5, "masks that do not rise, to lay out");
-    check(rundhefja_layout(circles, 2, 0.5, masks, 2049, areas, 2049).refusal == 2, "2,049 regions to lay out");
-    check(rundhefja_layout(circles, 65, 0.5, masks, 3, areas, 3).refusal == 1, "65 circles to lay out");
+    check(rundhefja_layout(circles, 4, 0.5, masks, 3, areas, 3, RUNDHEFJA_PROPORTION).refusal == 3, "a centre that is a NaN, to lay out");
+    check(rundhefja_layout(circles + 4, 1, 0.5, masks, 3, areas, 3, RUNDHEFJA_PROPORTION).refusal == 3, "a coordinate out of range, to lay out");
+    check(rundhefja_layout(circles, 2, 1.5, masks, 3, areas, 3, RUNDHEFJA_PROPORTION).refusal == 6, "a factor out of range");
+    check(rundhefja_layout(circles, 2, 0.5, masks, 3, areas, 2, RUNDHEFJA_PROPORTION).refusal == 13, "masks and areas of unequal number, to lay out");
+    check(rundhefja_layout(circles, 2, 0.5, masks, 4, areas, 4, RUNDHEFJA_PROPORTION).refusal == 5, "masks that do not rise, to lay out");
+    check(rundhefja_layout(circles, 2, 0.5, masks, 2049, areas, 2049, RUNDHEFJA_PROPORTION).refusal == 2, "2,049 regions to lay out");
+    check(rundhefja_layout(circles, 65, 0.5, masks, 3, areas, 3, RUNDHEFJA_PROPORTION).refusal == 1, "65 circles to lay out");
     check(memcmp(was, circles, sizeof was) == 0, "circles to the byte after a refused layout");
 }
 
@@ -347,7 +425,7 @@ static int container_gives(size_t n, rundhefja_rectangle given, uint8_t refusal)
 }
 
 /* Each region is circle 0 alone, so that two of them are one too many. */
-static int layout_gives(size_t n, double factor, size_t regions, size_t areas_len, uint8_t refusal) {
+static int layout_gives_at(double proportion, size_t n, double factor, size_t regions, size_t areas_len, uint8_t refusal) {
     static uint64_t masks[2049];
     static double areas[2049];
     rundhefja_layout_result r;
@@ -357,9 +435,13 @@ static int layout_gives(size_t n, double factor, size_t regions, size_t areas_le
         areas[i] = 1;
     }
     memcpy(row_was, row, sizeof row);
-    r = rundhefja_layout(row, n, factor, masks, regions, areas, areas_len);
+    r = rundhefja_layout(row, n, factor, masks, regions, areas, areas_len, proportion);
     if (r.refusal != refusal || !row_kept(refusal)) return 0;
     return refusal == 0 ? r.count == n : r.count == 0 && r.moved == 0 && is_zero(r.padding) && all_zero(r.numbers, 0);
+}
+
+static int layout_gives(size_t n, double factor, size_t regions, size_t areas_len, uint8_t refusal) {
+    return layout_gives_at(RUNDHEFJA_PROPORTION, n, factor, regions, areas_len, refusal);
 }
 
 /* 2,049 masks that rise, and 2,048 of them that do not. */
@@ -433,6 +515,62 @@ static void inks(void) {
     check(calls_give(3, 4), "14 after 4");
     row[1].center.x = of(PAYLOAD);
     check(calls_give(3, 3), "14 after 3");
+}
+
+/* ---- layouts at a proportion */
+
+/* Two circles of radius 1, each a cluster, laid out with no room between them: whether the first stands there, and the second opposite. */
+static int two_stand(double proportion, double x, double y) {
+    static const uint64_t mask = 0;
+    static const double area = 0;
+    rundhefja_circle two[2];
+    rundhefja_layout_result r;
+    two[0] = circle(0, 0, 1, 1);
+    two[1] = circle(10, 0, 1, 2);
+    r = rundhefja_layout(two, 2, 0, &mask, 0, &area, 0, proportion);
+    return r.refusal == 0 && r.count == 2 && is_circle(two[0], x, y, 1, 1) && is_circle(two[1], -x, -y, 1, 2);
+}
+
+/* Whether the first n circles of the row, which are alike, stand in so many columns and rows after a layout with no room between them. */
+static int row_stands(double proportion, size_t n, size_t across, size_t up) {
+    size_t i, k, xs = 0, ys = 0;
+    set_row();
+    if (!layout_gives_at(proportion, n, 0, 1, 1, 0)) return 0;
+    for (i = 0; i < n; i++) {
+        int new_x = 1, new_y = 1;
+        for (k = 0; k < i; k++) {
+            if (row[k].center.x == row[i].center.x) new_x = 0;
+            if (row[k].center.y == row[i].center.y) new_y = 0;
+        }
+        xs += new_x;
+        ys += new_y;
+    }
+    return xs == across && ys == up;
+}
+
+static void proportions(void) {
+    int i;
+    check(two_stand(0.25, 0, -1), "two circles at 1/4, one over the other");
+    check(two_stand(below(0.5), 0, -1) && two_stand(0.5, -1, 0), "two circles next to 1/2, and at it");
+    check(two_stand(RUNDHEFJA_PROPORTION, -1, 0) && two_stand(4, -1, 0), "two circles side by side");
+    check(row_stands(0.25, 64, 4, 16) && row_stands(1, 64, 8, 8) && row_stands(RUNDHEFJA_PROPORTION, 64, 11, 6) && row_stands(4, 64, 16, 4), "64 in a grid");
+    check(row_stands(0.25, 3, 1, 3) && row_stands(4, 3, 3, 1) && row_stands(0.25, 1, 1, 1) && row_stands(4, 1, 1, 1), "three in a line, and one");
+    check(layout_gives_at(0.25, 0, 1, 0, 0, 0) && layout_gives_at(4, 0, 1, 0, 0, 0), "no circles at both ends");
+    for (i = 0; i < BAD; i++) {
+        set_row();
+        check(layout_gives_at(bad(i), 64, 0.5, 1, 1, 16) && layout_gives_at(bad(i), 1, 0.5, 1, 1, 16), "16, of a layout");
+        check(layout_gives_at(bad(i), 0, 0, 0, 0, 16), "16, of no circles");
+        row[2].ink = row[1].ink;
+        check(layout_gives_at(bad(i), 2, 0.5, 1, 1, 16) && layout_gives_at(bad(i), 3, 0.5, 1, 1, 14), "16 after 14");
+        check(layout_gives_at(bad(i), 3, 1.5, 1, 1, 6) && layout_gives_at(bad(i), 0, -1, 0, 0, 6), "16 after 6");
+        check(layout_gives_at(bad(i), 3, 1.5, 2, 2, 5), "16 after 5");
+        row[0].radius = 0;
+        check(layout_gives_at(bad(i), 3, 1.5, 2, 2, 4), "16 after 4");
+        row[1].center.y = of(PAYLOAD);
+        check(layout_gives_at(bad(i), 3, 1.5, 2, 2, 3), "16 after 3");
+        check(layout_gives_at(bad(i), 3, 1.5, 2049, 2049, 2) && layout_gives_at(bad(i), 3, 1.5, 2049, 2048, 13), "16 after 2 and 13");
+        check(layout_gives_at(bad(i), 65, 1.5, 2049, 2048, 1), "16 after 1, of a layout");
+    }
 }
 
 /* two circles and no region; see samples/ */
@@ -592,9 +730,11 @@ int main(int argc, char **argv) {
     clusters();
     area_clusters();
     pack();
+    pack_ends();
     container();
     layout();
     inks();
+    proportions();
     field();
     write_card(argc > 1 ? argv[1] : "samples/two.card");
     card_text(argc > 1 ? argv[1] : "samples/two.card");

@@ -10,6 +10,7 @@
 
 #define STACK ((size_t)1 << 20)
 #define PAINT 0xa5
+#define PROPORTION 4 /* most columns, which are counted and not looked up */
 
 static rundhefja_circle circles[RUNDHEFJA_MAX_CIRCLES];
 static uint64_t masks[RUNDHEFJA_MAX_REGIONS], patterns[RUNDHEFJA_MAX_REGIONS];
@@ -72,7 +73,13 @@ static void fill_card(void) {
 static void *nothing(void *unused) { return unused; }
 
 static void *layout(void *unused) {
-    refusal = rundhefja_layout(circles, RUNDHEFJA_MAX_CIRCLES, 0.5, masks, RUNDHEFJA_MAX_REGIONS, areas, RUNDHEFJA_MAX_REGIONS).refusal;
+    refusal = rundhefja_layout(circles, RUNDHEFJA_MAX_CIRCLES, 0.5, masks, RUNDHEFJA_MAX_REGIONS, areas, RUNDHEFJA_MAX_REGIONS, PROPORTION).refusal;
+    return unused;
+}
+
+/* Every circle in a cluster of its own, so that the grid is as full as it can be. */
+static void *apart(void *unused) {
+    refusal = rundhefja_layout(circles, RUNDHEFJA_MAX_CIRCLES, 0.5, masks, 0, areas, 0, PROPORTION).refusal;
     return unused;
 }
 
@@ -93,7 +100,7 @@ static void *area_clusters(void *unused) {
 }
 
 static void *pack(void *unused) {
-    refusal = rundhefja_pack(boxes, RUNDHEFJA_MAX_CIRCLES, 1).refusal;
+    refusal = rundhefja_pack(boxes, RUNDHEFJA_MAX_CIRCLES, 1, PROPORTION).refusal;
     return unused;
 }
 
@@ -141,6 +148,7 @@ static const struct {
     size_t limit;
 } calls[] = {
     {"a layout of 64 circles and 2,048 regions", layout, RUNDHEFJA_STACK},
+    {"a layout of 64 clusters", apart, RUNDHEFJA_STACK},
     {"a container of 64 circles", container, RUNDHEFJA_STACK},
     {"clusters of 64 circles", clusters, RUNDHEFJA_STACK},
     {"clusters by 2,048 regions", area_clusters, RUNDHEFJA_STACK},

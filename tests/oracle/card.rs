@@ -118,7 +118,7 @@ fn read(file: &[u8], card: &mut Card) -> Result<(), usize> {
     Ok(())
 }
 
-fn checked(card: &Card) -> Result<(), usize> {
+pub fn checked(card: &Card) -> Result<(), usize> {
     let refusal = crate::circles_refusal(&card.circles);
     if refusal != 0 {
         Err(refusal)
@@ -138,18 +138,18 @@ fn bits(x: f64) -> u64 {
     if x == 0.0 { 0 } else { x.to_bits() }
 }
 
-fn laid_out(card: &Card) -> (String, usize, Seen) {
+// The circles of a layout, and what it worked out on the way.
+pub fn layout(card: &Card) -> (Vec<Circle>, Seen) {
     let areas: BTreeMap<usize, f64> = card.regions.iter().map(|(mask, area)| (*mask as usize, *area)).collect();
     let mut shapes: Vec<Circle> = card.circles.iter().map(|c| crate::circle(*c)).collect();
     take_seen();
     normalize_layout_with_clusters(&mut shapes, card.factor, Some(&areas));
-    let seen = take_seen();
-    let mut numbers = [0; 64];
-    for (number, cluster) in seen.clusters.iter().enumerate() {
-        for &i in cluster {
-            numbers[i] = number;
-        }
-    }
+    (shapes, take_seen())
+}
+
+fn laid_out(card: &Card) -> (String, usize, Seen) {
+    let (shapes, seen) = layout(card);
+    let numbers = crate::numbers(&seen.clusters);
     let mut text = format!("circles {} clusters {} moved {:016x} padding {:016x}\n", shapes.len(), seen.clusters.len(), seen.moved, bits(seen.padding));
     for (i, c) in shapes.iter().enumerate() {
         let [x, y, radius] = [c.center().x(), c.center().y(), c.radius()].map(bits);

@@ -4,8 +4,8 @@ use crate::card::{Card, Outcome};
 use crate::{Random, above, below};
 use std::collections::BTreeMap;
 
-const END: f64 = 1048576.0;
-const LEAST_RADIUS: f64 = 9.5367431640625e-7;
+pub const END: f64 = 1048576.0;
+pub const LEAST_RADIUS: f64 = 9.5367431640625e-7;
 
 // ---- the file
 
@@ -87,7 +87,7 @@ fn without_inks(card: &Card) -> Vec<u8> {
 // Regions by mask, so that they rise.
 type Areas = BTreeMap<u64, f64>;
 
-fn card(random: &mut Random, small: bool) -> Card {
+pub fn card(random: &mut Random, small: bool) -> Card {
     let n = match random.below(60) {
         0 if !small => random.pick(&[63, 64, 64, 65]),
         1 | 2 if !small => random.below(60) + 4,
@@ -127,7 +127,7 @@ fn card(random: &mut Random, small: bool) -> Card {
     Card { factor, circles, inks, regions: areas.into_iter().collect() }
 }
 
-fn single(i: usize) -> u64 {
+pub fn single(i: usize) -> u64 {
     1 << (i % 64)
 }
 

@@ -1,17 +1,21 @@
 // Writes records of inputs and the answers of the patched Rust, for the program `replay` and for tests/lent:
 //     oracle KIND COUNT SEED          COUNT random inputs of a kind
-//     oracle KIND COUNT SEED small    of kinds 10 and 11: short cards alone
-//     oracle 10 COUNT SEED stats      cards, and on standard error how often each case came up
+//     oracle KIND COUNT SEED small    of kinds 8, 10, 11 and 12: mostly short records
+//     oracle KIND COUNT SEED stats    of kinds 10 and 11: and on standard error how often each case came up
+//     oracle at P KIND COUNT SEED     inputs of kind 8 or 11 at a proportion, until COUNT of them are accepted; `small` and `stats` as above
+//     oracle columns P                a record of kind 7 for each of 0 to 65 boxes, at a proportion
 //     oracle files NAME...            a record of kind 10 for each of the card files
 //     oracle text                     what program `card` prints for the card file on standard input
 // A record is a kind byte, a two-byte length and a body: the input, then the answer; all numbers little-endian. Refusals are worked out here from document
-// 01's table, since the Rust asserts or takes what comes; so are the fields of kind 11, as the Rust has no card file. The Rust sees circles without their inks:
-// those that come back are those handed in, and two equal ones of a list are refused with 14, after all else. Either zero is written as 0, and every NaN as one.
+// 01's table, since the Rust asserts or takes what comes; so are the fields of kind 12, as the Rust has no card file. The Rust sees circles without their inks:
+// those that come back are those handed in, and two equal ones of a list are refused with 14, after all of document 01. A proportion out of range is refused
+// with 16, after all else. Either zero is written as 0, and every NaN as one.
 #[path = "../../target/oracle/eunoia.rs"]
 mod eunoia;
 mod card;
 mod cards;
 mod fields;
+mod layouts;
 
 use eunoia::*;
 use std::collections::{BTreeMap, BTreeSet};
@@ -154,6 +158,21 @@ impl Random {
             _ => self.unit() * 10.0,
         }
     }
+    // A proportion for k boxes: an end, 1.618 and its neighbours, where the columns step, or any. One in six is refused.
+    fn proportion(&mut self, k: u64) -> f64 {
+        if self.below(6) == 0 {
+            return self.pick(&[below(0.25), above(4.0), 0.0, -0.0, -1.0, -1.618, 5e-324, 1e300, f64::NAN, f64::INFINITY, f64::NEG_INFINITY]);
+        }
+        let square = self.below(16) + 1;
+        let step = (square * square) as f64 / k.max(1) as f64;
+        match self.below(6) {
+            0 => self.pick(&[0.25, above(0.25), below(4.0), 4.0]),
+            1 => self.pick(&[below(1.618), 1.618, above(1.618)]),
+            2 | 3 if 0.26 < step && step < 3.9 => f64::from_bits(step.to_bits() + self.below(9) - 4),
+            4 => 0.25 + 0.75 * self.unit(),
+            _ => 1.0 + 3.0 * self.unit(),
+        }
+    }
     // Masks that rise strictly; sometimes one is repeated or out of order.
     fn masks(&mut self, n: u64, m: usize, wild: u64) -> Vec<u64> {
         let wide = self.below(4) == 0;
@@ -251,6 +270,10 @@ fn bad_radius(r: f64) -> bool {
     !(9.5367431640625e-7 <= r && r <= 1048576.0)
 }
 
+fn bad_proportion(x: f64) -> bool {
+    !(0.25 <= x && x <= 4.0)
+}
+
 fn circle(c: [f64; 3]) -> Circle {
     Circle::new(Point::new(c[0], c[1]), c[2])
 }
@@ -267,25 +290,27 @@ fn circles_refusal(circles: &[[f64; 3]]) -> usize {
     }
 }
 
-// Whether two of a list have one ink. It is looked for after every other check.
+// Whether two of a list have one ink. It is looked for after every other check of document 01.
 fn same_ink(inks: &[u16]) -> bool {
     inks.iter().collect::<BTreeSet<_>>().len() < inks.len()
 }
 
-fn grouped(record: &mut Record, refusal: usize, clusters: Vec<Vec<usize>>) {
+// The cluster of each circle.
+fn numbers(clusters: &[Vec<usize>]) -> [u8; 64] {
     let mut numbers = [0u8; 64];
-    let mut count = 0;
-    if refusal == 0 {
-        count = clusters.len();
-        for (number, cluster) in clusters.iter().enumerate() {
-            for &i in cluster {
-                numbers[i] = number as u8;
-            }
+    for (number, cluster) in clusters.iter().enumerate() {
+        for &i in cluster {
+            numbers[i] = number as u8;
         }
     }
+    numbers
+}
+
+// After a refusal there are no clusters.
+fn grouped(record: &mut Record, refusal: usize, clusters: &[Vec<usize>]) {
     record.byte(refusal);
-    record.byte(count);
-    record.0.extend_from_slice(&numbers);
+    record.byte(clusters.len());
+    record.0.extend_from_slice(&numbers(clusters));
 }
 
 // ---- one record of each kind
@@ -364,7 +389,7 @@ fn circles_record(random: &mut Random, record: &mut Record) {
         number => number,
     };
     let shapes: Vec<Circle> = circles.iter().map(|c| circle(*c)).collect();
-    grouped(record, refusal, if refusal == 0 { find_clusters(&shapes) } else { vec![] });
+    grouped(record, refusal, &if refusal == 0 { find_clusters(&shapes) } else { vec![] });
 }
 
 fn areas_record(random: &mut Random, record: &mut Record) {
@@ -404,7 +429,7 @@ fn areas_record(random: &mut Random, record: &mut Record) {
         0
     };
     let map: BTreeMap<usize, f64> = masks.iter().map(|w| *w as usize).zip(areas.iter().copied()).collect();
-    grouped(record, refusal, if refusal == 0 { find_clusters_from_exclusive_regions(n as usize, &map, tolerance) } else { vec![] });
+    grouped(record, refusal, &if refusal == 0 { find_clusters_from_exclusive_regions(n as usize, &map, tolerance) } else { vec![] });
 }
 
 fn boxes_record(random: &mut Random, record: &mut Record) {
@@ -437,13 +462,19 @@ fn boxes_record(random: &mut Random, record: &mut Record) {
     record.bounds(Rectangle::new(Point::new(f[4], f[5]), f[6], f[7]).bounds());
 }
 
-fn columns_record(random: &mut Random, record: &mut Record) {
-    let k = random.below(70) as usize;
+// How many boxes, the proportion; the refusal, the columns.
+fn columns_record(k: usize, proportion: f64, record: &mut Record) {
+    let refusal = if k > 64 {
+        1
+    } else if bad_proportion(proportion) {
+        16
+    } else {
+        0
+    };
     record.byte(k);
-    record.byte(if k > 64 { 1 } else { 0 });
-    // the source works this out inside the packing
-    let columns = ((k as f64).sqrt() * 1.618f64.sqrt()).ceil() as usize;
-    record.byte(if k > 64 { 0 } else { columns });
+    record.float(proportion);
+    record.byte(refusal);
+    record.byte(if refusal == 0 { at_proportion(proportion, || columns(k)) } else { 0 });
 }
 
 impl Random {
@@ -465,8 +496,13 @@ fn bad_side(x: f64) -> bool {
     !(0.0 <= x && x <= 8388608.0)
 }
 
-fn pack_record(random: &mut Random, record: &mut Record) {
-    let n = random.pick(&[0u64, 1, 2, 2, 3, 3, 4, 5, 6, 8, 13, 30, 63, 64, 65, 70]);
+fn some_boxes(random: &mut Random, small: bool) -> u64 {
+    let few = small && random.below(8) > 0;
+    random.pick(if few { &[1, 2, 3, 4, 5, 6, 8] } else { &[0, 1, 2, 2, 3, 3, 4, 5, 6, 8, 13, 30, 63, 64, 65, 70] })
+}
+
+// How many boxes, the padding, the proportion, the boxes; the refusal, and where there is none the boxes placed. Gives whether it is accepted.
+fn pack_record(random: &mut Random, n: u64, proportion: f64, record: &mut Record) -> bool {
     let wild = random.pick(&[0, 0, 0, 30, 300]);
     let padding = match random.below(8) {
         0 => random.pick(&[0.0, -0.0, 67108864.0, 5e-324]),
@@ -477,6 +513,7 @@ fn pack_record(random: &mut Random, record: &mut Record) {
     let rects: Vec<[f64; 4]> = (0..n).map(|_| [random.any(), random.any(), random.side(wild), random.side(wild)]).collect();
     record.byte(n as usize);
     record.float(padding);
+    record.float(proportion);
     for r in &rects {
         for x in r {
             record.float(*x);
@@ -488,18 +525,21 @@ fn pack_record(random: &mut Random, record: &mut Record) {
         7
     } else if !(0.0 <= padding && padding <= 67108864.0) {
         8
+    } else if bad_proportion(proportion) {
+        16
     } else {
         0
     };
     record.byte(refusal);
     if refusal == 0 {
         let given: Vec<Rectangle> = rects.iter().map(|r| Rectangle::new(Point::new(r[0], r[1]), r[2], r[3])).collect();
-        for r in skyline_pack(&given, padding) {
+        for r in at_proportion(proportion, || skyline_pack(&given, padding)) {
             for x in [r.center().x(), r.center().y(), r.width(), r.height()] {
                 record.result(x);
             }
         }
     }
+    refusal == 0
 }
 
 fn container_record(random: &mut Random, record: &mut Record) {
@@ -549,6 +589,35 @@ fn container_record(random: &mut Random, record: &mut Record) {
     }
 }
 
+// How many circles, masks and areas; the proportion, the factor, the circles, the masks, the areas; the refusal, the clusters, the mask of the moved circles,
+// the padding and, where they fit a layout, the circles.
+fn layout_record(given: &layouts::Lists, proportion: f64, record: &mut Record) -> layouts::Outcome {
+    let outcome = layouts::outcome(given, proportion);
+    record.byte(given.circles.len());
+    record.short(given.masks.len());
+    record.short(given.areas.len());
+    record.float(proportion);
+    record.float(given.factor);
+    for (c, ink) in given.circles.iter().zip(&given.inks) {
+        record.circle(*c, *ink);
+    }
+    for w in &given.masks {
+        record.word(*w);
+    }
+    for a in &given.areas {
+        record.float(*a);
+    }
+    grouped(record, outcome.refusal, &outcome.seen.clusters);
+    record.word(outcome.seen.moved);
+    record.result(outcome.seen.padding);
+    if given.circles.len() <= 64 {
+        for (c, ink) in outcome.circles.iter().zip(&given.inks) {
+            record.placed(*c, *ink);
+        }
+    }
+    outcome
+}
+
 // The length of the card file, the file, and what program `card` prints for it.
 fn card_record(file: &[u8], record: &mut Record) -> card::Outcome {
     let outcome = card::outcome(file);
@@ -585,12 +654,20 @@ fn field_record(file: &[u8], at: usize, record: &mut Record) {
     record.word(length as u64);
 }
 
+fn number(words: &[String], i: usize) -> u64 {
+    words.get(i).and_then(|w| w.parse().ok()).expect("oracle KIND COUNT SEED")
+}
+
+fn proportion(words: &[String], i: usize) -> f64 {
+    words.get(i).and_then(|w| w.parse().ok()).expect("a proportion")
+}
+
 fn write_random(words: &[String], out: &mut impl Write) {
-    let number = |i: usize| words.get(i).and_then(|w| w.parse::<u64>().ok()).expect("oracle KIND COUNT SEED");
-    let (kind, count, seed) = (number(0), number(1), number(2));
+    let (kind, count, seed) = (number(words, 0), number(words, 1), number(words, 2));
     let asked = |option: &str| words[3..].iter().any(|w| w == option);
     let mut random = Random(seed.wrapping_mul(0x1000_0000_01b3) ^ kind);
     let mut tally = cards::Tally::default();
+    let mut layouts_tally = layouts::Tally::default();
     let mut places = fields::Places::default();
     for _ in 0..count {
         let mut record = Record::default();
@@ -601,11 +678,23 @@ fn write_random(words: &[String], out: &mut impl Write) {
             4 => circles_record(&mut random, &mut record),
             5 => areas_record(&mut random, &mut record),
             6 => boxes_record(&mut random, &mut record),
-            7 => columns_record(&mut random, &mut record),
-            8 => pack_record(&mut random, &mut record),
+            7 => {
+                let k = random.below(70);
+                columns_record(k as usize, random.proportion(k), &mut record);
+            }
+            8 => {
+                let n = some_boxes(&mut random, asked("small"));
+                let proportion = random.proportion(n);
+                pack_record(&mut random, n, proportion, &mut record);
+            }
             9 => container_record(&mut random, &mut record),
             10 => tally.count(&card_record(&cards::file(&mut random, asked("small")), &mut record)),
             11 => {
+                let given = layouts::lists(&mut random, asked("small"));
+                let proportion = random.proportion(given.circles.len() as u64);
+                layouts_tally.count(proportion, &layout_record(&given, proportion, &mut record));
+            }
+            12 => {
                 let at = places.next(&mut random, asked("small"));
                 field_record(&places.file, at, &mut record);
             }
@@ -613,8 +702,51 @@ fn write_random(words: &[String], out: &mut impl Write) {
         }
         record.write(kind as u8, out);
     }
+    if asked("stats") && kind == 10 {
+        tally.print();
+    }
+    if asked("stats") && kind == 11 {
+        layouts_tally.print();
+    }
+}
+
+// The first that is accepted has 64 boxes.
+fn write_at(words: &[String], out: &mut impl Write) {
+    let proportion = proportion(words, 0);
+    let (kind, count, seed) = (number(words, 1), number(words, 2), number(words, 3));
+    let asked = |option: &str| words[4..].iter().any(|w| w == option);
+    let mut random = Random(seed.wrapping_mul(0x1000_0000_01b3) ^ kind ^ proportion.to_bits());
+    let mut tally = layouts::Tally::default();
+    let mut accepted = 0;
+    while accepted < count {
+        let full = accepted == 0;
+        let mut record = Record::default();
+        let is_accepted = match kind {
+            8 => {
+                let n = if full { 64 } else { some_boxes(&mut random, asked("small")) };
+                pack_record(&mut random, n, proportion, &mut record)
+            }
+            11 => {
+                let given = if full { layouts::full(&mut random) } else { layouts::lists(&mut random, asked("small")) };
+                let outcome = layout_record(&given, proportion, &mut record);
+                tally.count(proportion, &outcome);
+                outcome.refusal == 0
+            }
+            _ => panic!("no such kind at a proportion"),
+        };
+        record.write(kind as u8, out);
+        accepted += is_accepted as u64;
+    }
     if asked("stats") {
         tally.print();
+    }
+}
+
+fn write_columns(proportion: f64, out: &mut impl Write) {
+    for k in 0..=65 {
+        let mut record = Record::default();
+        columns_record(k, proportion, &mut record);
+        record.write(7, out);
     }
 }
 
@@ -635,6 +767,8 @@ fn main() {
             std::io::stdin().read_to_end(&mut file).unwrap();
             out.write_all(&card::outcome(&file).text).unwrap();
         }
+        Some("at") => write_at(&words[1..], &mut out),
+        Some("columns") => write_columns(proportion(&words, 1), &mut out),
         _ => write_random(&words, &mut out),
     }
 }

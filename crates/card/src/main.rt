@@ -14,7 +14,7 @@ pub enum Input {
 
 fn main() {
     // One byte more than is taken, so that a longer input shows.
-    let mut input = [0u8; card_file::MAX_INPUT + 1];
+    let mut input = [0u8; card_output::MAX_INPUT + 1];
     let came = read_input(&mut input);
     match came {
         Input::Bytes(n) => answer(&input[..n]),
@@ -42,7 +42,7 @@ fn read_input(room: &mut [u8]) -> Input
 }
 
 fn answer(input: &[u8]) {
-    let text = card_file::card_text(input);
+    let text = card_output::card_text(input);
     let bytes = text.bytes;
     let length = text.length;
     if !io::write_all(STDOUT_FILENO, &bytes[..length]) {

@@ -1,5 +1,5 @@
 -- An array is filled from its start, entry after entry: what is used grows by one, and the rest stays as it was.
-use Prim.Native.Nat.{ℕ, zero, suc, _+_, _-_, _<_}
+use Prim.Native.Nat.{ℕ, _+_, _-_, _<_}
 use native.Mathlib.Omega.{arith}
 use native.Mathlib.Numerals.{add-one}
 use mathlib.Core.Path.{_≡_, refl, sym, ap, _∙_}
@@ -7,6 +7,7 @@ use mathlib.Core.List.{List, [], _∷_, _++_}
 use lib.ListN.{length, take, drop, set, replicate, length-set, length-replicate}
 use lib.Seq.{drop-drop, drop-set-lt, take-suc-set, length-take-le}
 use Rattle.scope.specs.Numbers.{nought}
+use Rattle.laws.proofs.Runs.{drop-replicate}
 use Rattle.intake.specs.Blanks.{blank}
 use Rattle.intake.specs.Limits.{maxCircles, maxRegions}
 use Rattle.card_file.specs.Unused.{Uses, RestIsBlank}
@@ -18,10 +19,6 @@ module _ {A : Type 0} where
       let all : room ≡ room - 0 = omega arith in
       record { long = length-replicate room z; fits = omega arith; unused = ap (λ (k : ℕ). replicate k z) all }
 
-  drop-one : (k : ℕ) (z : A) → drop 1 (replicate k z) ≡ replicate (k - 1) z
-  drop-one zero z = refl
-  drop-one (suc k) z = let one-less : k ≡ suc k - 1 = omega arith in ap (λ (j : ℕ). replicate j z) one-less
-
   pub one-more-used : {room : ℕ} {z : A} {n : ℕ} {l : List A} (a : A) → n < room → Uses room z n l → Uses room z (n + 1) (set l n a)
   one-more-used {room} {z} {n} {l} a h u =
       let one-less : room - n - 1 ≡ room - (n + 1) = omega arith in
@@ -29,7 +26,7 @@ module _ {A : Type 0} where
         long = length-set l n a ∙ u .long;
         fits = omega arith;
         unused =
-            drop-set-lt (n + 1) l n a (omega arith) ∙ sym (drop-drop 1 n l) ∙ ap (drop 1) (u .unused) ∙ drop-one (room - n) z
+            drop-set-lt (n + 1) l n a (omega arith) ∙ sym (drop-drop 1 n l) ∙ ap (drop 1) (u .unused) ∙ drop-replicate 1 (room - n) z
             ∙ ap (λ (k : ℕ). replicate k z) one-less;
       }
 

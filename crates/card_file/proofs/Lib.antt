@@ -3,12 +3,3 @@ pub mod FieldLaws
 pub mod Filling
 pub mod Reading
 pub mod Values
-pub mod Digits
-pub mod Putting
-pub mod ToBytes
-pub mod PutFields
-pub mod Printing
-pub mod ClusterNumbers
-pub mod Texts
-pub mod FrontCards
-pub mod CardRuns

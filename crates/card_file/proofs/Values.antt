@@ -7,12 +7,12 @@ use lib.Ieee.{Float}
 use borrow.Author.Tests.{le-ltb}
 use Rattle.shapes.specs.declared.circle.Circle.{Circle}
 use Rattle.scope.specs.Limits.{circleCap}
-use Rattle.scope.specs.Refusals.{Answer, answer, refusal, tooMany, badFactor, inks, layoutRefusal}
+use Rattle.scope.specs.Refusals.{Answer, answer, refusal, tooMany, badFactor, inks, cardRefusal}
 use Rattle.scope.specs.CardFile.{valued}
 use Rattle.intake.specs.Columns.{xsOf, ysOf, radiiOf}
 use Rattle.intake.specs.Splits.{loaded}
 use Rattle.intake.specs.CauseWords.{front, circleChecks, regionChecks}
-use Rattle.intake.proofs.CauseWords.{layout-checks}
+use Rattle.intake.proofs.CauseWords.{card-checks}
 use Rattle.intake.proofs.Splitting.{front-shown}
 use Rattle.card_file.specs.declared.cards.Card.{Card}
 use Rattle.card_file.specs.Answers.{ReadCard}
@@ -42,9 +42,9 @@ module _ (r : Card) (u : RestIsBlank r) (xs ys rs : List Float) (is : List ℕ) 
 
   pub card-values :
       refusal (circleChecks (r .n) (column xsOf xs) (column ysOf ys) (column radiiOf rs) (column inks is) ++ regionChecks masks areas ++ (6, badFactor (r .factor)) ∷ [])
-      ≡ layoutRefusal circles (r .factor) masks areas
-  unfolding layoutRefusal
-  card-values = rw (shown-again, used-length (u .circles)) (layout-checks _ _ _ _ _ _ _ _)
+      ≡ cardRefusal circles (r .factor) masks areas
+  unfolding cardRefusal
+  card-values = rw (shown-again, used-length (u .circles)) (card-checks _ _ _ _ _ _ _ _)
 
 -- ---- the answer of a card that was read
 
@@ -53,6 +53,6 @@ unfolding valued
 stays-refused k card a e h = let no = refused-answer k card h in rw (← e, no)
 
 pub with-values : (k : ℕ) (card : ReadCard) (a : Answer ReadCard) → answer k card ≡ a → k ≡ 0
-    → valued a ≡ answer (layoutRefusal (card .circles) (card .factor) (card .masks) (card .areas)) card
+    → valued a ≡ answer (cardRefusal (card .circles) (card .factor) (card .masks) (card .areas)) card
 unfolding valued answer
 with-values k card a e h = rw (← e, h)

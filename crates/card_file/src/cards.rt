@@ -4,7 +4,7 @@ ghost use mathlib.Core.Bool.{_&&_};
 ghost use Prim.Native.Nat.{suc, _≤_};
 ghost use lib.Dec.{eqb};
 ghost use lib.ListN.{length, take, drop};
-ghost use Rattle.scope.specs.Refusals.{tooMany, tooManyRegions, layoutRefusal};
+ghost use Rattle.scope.specs.Refusals.{tooMany, tooManyRegions, cardRefusal};
 ghost use Rattle.scope.specs.CardFile.{started, firstRefusal, misplaced, nextRefusal, fields, readFile, readCard};
 ghost use Rattle.scope.specs.Saving.{fileOf};
 ghost use Rattle.intake.specs.Limits.{maxCircles, maxRegions};
@@ -205,7 +205,7 @@ fn is_region_too_many(tag: u64, m: usize) -> bool
 // A card that was read has no more circles and regions than there may be, so its values are left.
 fn value_refusal(card: Card) -> u8
     requires { ⌜ RestIsBlank card ⌝ }
-    ensures { λ r. ⌜ r ≡ layoutRefusal (take (card .n) (card .circles)) (card .factor) (take (card .m) (card .masks)) (take (card .m) (card .areas)) ⌝ }
+    ensures { λ r. ⌜ r ≡ cardRefusal (take (card .n) (card .circles)) (card .factor) (take (card .m) (card .masks)) (take (card .m) (card .areas)) ⌝ }
 {
     let n = card.n;
     let circles = card.circles;

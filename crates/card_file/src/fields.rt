@@ -97,7 +97,7 @@ fn stated_length(file: &[u8], at: usize) -> u64
 }
 
 // How long the body has to be. A tag that is unknown has none.
-pub(crate) fn body_length(tag: u64) -> u64
+pub fn body_length(tag: u64) -> u64
     ensures { λ r. ⌜ (r ≡ bodyLength tag) × (r ≤ 26) ⌝ }
 {
     if tag == 1 {

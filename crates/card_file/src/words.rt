@@ -1,13 +1,8 @@
-// Numbers from bytes and to bytes, the lowest first: words of eight bytes and of two.
+// Numbers from bytes, the lowest first: words of eight bytes and of two.
 ghost use mathlib.Core.Path.{_≡_};
 ghost use Prim.Native.Nat.{_+_, _*_, _<_, _≤_, _^_};
-ghost use lib.ListN.{getD, length, drop};
+ghost use lib.ListN.{getD, drop};
 ghost use Rattle.scope.specs.CardFile.{word, shortWord};
-ghost use Rattle.scope.specs.Saving.{lowBytes};
-ghost use Rattle.card_file.specs.Puts.{Put};
-use crate::puts::put_byte;
-
-// ---- from bytes
 
 // The word at a place, lowest byte first. What lies past the end counts as 0.
 pub(crate) fn word_at(bytes: &[u8], at: usize) -> u64
@@ -52,26 +47,4 @@ fn wide(x: u8) -> u64
     ensures { λ r. ⌜ (r ≡ x) × (r < 256) ⌝ }
 {
     x as u64
-}
-
-// ---- to bytes
-
-// The eight bytes of a word.
-pub(crate) fn put_word(out: &mut [u8], at: usize, n: u64) -> usize
-    requires { ⌜ at + 8 ≤ length (now out) ⌝ }
-    ensures { λ r. ⌜ Put (lowBytes 8 n) at (now (out .entry)) r (now (out .exit)) ⌝ }
-{
-    let second = put_short(out, at, n % 65536);
-    let third = put_short(out, second, n / 65536 % 65536);
-    let fourth = put_short(out, third, n / 4294967296 % 65536);
-    put_short(out, fourth, n / 281474976710656)
-}
-
-// The two bytes of a word of two.
-pub(crate) fn put_short(out: &mut [u8], at: usize, n: u64) -> usize
-    requires { ⌜ (n < 65536) × (at + 2 ≤ length (now out)) ⌝ }
-    ensures { λ r. ⌜ Put (lowBytes 2 n) at (now (out .entry)) r (now (out .exit)) ⌝ }
-{
-    let next = put_byte(out, at, (n % 256) as u8);
-    put_byte(out, next, (n / 256) as u8)
 }

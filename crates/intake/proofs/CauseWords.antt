@@ -80,11 +80,11 @@ number-says w cs e = first-same (bit w) (causeHolds cs) e causes
 -- ---- the order in which the checks stand
 
 -- what the words of circles, regions and a factor say when they are joined, in the order of causes
-pub layout-checks : (a b c d e f g h : Bool)
+pub card-checks : (a b c d e f g h : Bool)
     → refusal ((1, a) ∷ (3, b) ∷ (4, c) ∷ (14, h) ∷ (13, d) ∷ (2, e) ∷ (5, f) ∷ (6, g) ∷ [])
     ≡ refusal ((1, a) ∷ (13, d) ∷ (2, e) ∷ (3, b) ∷ (4, c) ∷ (5, f) ∷ (6, g) ∷ (14, h) ∷ [])
 unfolding refusal first causeHolds causes
-layout-checks a b c d e f g h = refl
+card-checks a b c d e f g h = refl
 
 -- and with an output's
 pub writer-checks : (a b c d e f g h s : Bool)
@@ -92,6 +92,13 @@ pub writer-checks : (a b c d e f g h s : Bool)
     ≡ refusal ((1, a) ∷ (13, d) ∷ (2, e) ∷ (3, b) ∷ (4, c) ∷ (5, f) ∷ (6, g) ∷ (14, h) ∷ (15, s) ∷ [])
 unfolding refusal first causeHolds causes
 writer-checks a b c d e f g h s = refl
+
+-- and with a proportion's
+pub layout-checks : (a b c d e f g h p : Bool)
+    → refusal ((1, a) ∷ (3, b) ∷ (4, c) ∷ (14, h) ∷ (13, d) ∷ (2, e) ∷ (5, f) ∷ (6, g) ∷ (16, p) ∷ [])
+    ≡ refusal ((1, a) ∷ (13, d) ∷ (2, e) ∷ (3, b) ∷ (4, c) ∷ (5, f) ∷ (6, g) ∷ (14, h) ∷ (16, p) ∷ [])
+unfolding refusal first causeHolds causes
+layout-checks a b c d e f g h p = refl
 
 -- ---- the search for it, cause by cause
 small : ℕ → ℕ → Bool

@@ -2,7 +2,7 @@
 ghost use mathlib.Core.Path.{_≡_};
 ghost use Prim.Native.Nat.{min};
 ghost use Rattle.scope.specs.Limits.{coordinateOk, sideOk};
-ghost use Rattle.scope.specs.Refusals.{tooMany, tooManyRegions, badPoint, badCentre, badRadius, badFactor, badSide, badPadding};
+ghost use Rattle.scope.specs.Refusals.{tooMany, tooManyRegions, badPoint, badCentre, badRadius, badFactor, badSide, badPadding, badProportion};
 ghost use Rattle.intake.specs.Limits.{maxCircles};
 use shapes::circle::Circle;
 use shapes::point::Point;
@@ -20,6 +20,13 @@ pub(crate) const MAX_SIDE: f64 = 8388608.0;
 
 // 2^26, the largest padding.
 const MAX_PADDING: f64 = 67108864.0;
+
+const MIN_PROPORTION: f64 = 0.25;
+
+const MAX_PROPORTION: f64 = 4.0;
+
+// The proportion of document 01, which `card` keeps.
+pub const GOLDEN: f64 = 1.618;
 
 // The smaller of n and 64.
 pub fn room(n: usize) -> usize
@@ -93,4 +100,11 @@ pub(crate) fn bad_padding(x: f64) -> bool
     ensures { λ r. ⌜ r ≡ badPadding x ⌝ }
 {
     !(0.0 <= x && x <= MAX_PADDING)
+}
+
+// Refusal 16.
+pub(crate) fn bad_proportion(x: f64) -> bool
+    ensures { λ r. ⌜ r ≡ badProportion x ⌝ }
+{
+    !(MIN_PROPORTION <= x && x <= MAX_PROPORTION)
 }

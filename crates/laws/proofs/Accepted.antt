@@ -1,9 +1,9 @@
--- A layout is accepted exactly if its inputs keep every limit and range, circle by circle.
+-- A card is accepted exactly if its values keep every limit and range, circle by circle; a layout, exactly if its card is and the proportion is in range.
 use Prim.Native.Nat.{ℕ, zero, suc, _≤_, _<_}
 use mathlib.Core.Path.{_≡_, refl, sym, ap, _∙_}
 use native.Mathlib.Omega.{arith}
 use mathlib.Core.Logic.{_↔_, _⊎_, Iff·trans, inl, inr, ⊎-elim}
-use mathlib.Core.Bool.{Bool, _&&_}
+use mathlib.Core.Bool.{Bool, _&&_, cond}
 use mathlib.Core.List.{List, [], _∷_}
 use lib.ListN.{length, getD}
 use lib.Dec.{T, eqb}
@@ -11,13 +11,16 @@ use lib.Ieee.{Float}
 use Rattle.shapes.specs.declared.point.Point.{Point}
 use Rattle.shapes.specs.declared.circle.Circle.{Circle}
 use Rattle.scope.specs.Runs.{any}
-use Rattle.scope.specs.Limits.{circleCap, regionCap, coordinateOk, radiusOk, factorOk}
-use Rattle.scope.specs.Refusals.{tooMany, unequal, tooManyRegions, badPoint, badCentre, badRadius, rising, badFactor, repeated, inks, sameInk, layoutRefusal}
+use Rattle.scope.specs.Numbers.{golden}
+use Rattle.scope.specs.Limits.{circleCap, regionCap, coordinateOk, radiusOk, factorOk, proportionOk}
+use Rattle.scope.specs.Refusals.{tooMany, unequal, tooManyRegions, badPoint, badCentre, badRadius, rising, badFactor, repeated, inks, sameInk, badProportion, cardRefusal, layoutRefusal}
 use Rattle.scope.specs.Links.{circle, nowhere}
+use Rattle.scope.specs.Computing.{computing}
 use Rattle.laws.specs.Limits.{WithinLimits, SameInk}
 use Rattle.laws.proofs.Cases.{or-iff, and-iff, not-not-iff, not-ltb-iff, eqb-iff}
 use Rattle.laws.proofs.Runs.{any-at, none-at}
-use Rattle.laws.proofs.EntryPoints.{layout-reads}
+use Rattle.laws.proofs.FrontToBack.{last-check, last-passes, last-accepts-iff}
+use Rattle.laws.proofs.EntryPoints.{card-reads, layout-reads}
 
 -- ---- each cause, denied
 
@@ -48,6 +51,10 @@ not-bad-radius-iff c = not-not-iff (radiusOk (c .radius))
 pub not-bad-factor-iff : (x : Float) → (¬ T (badFactor x)) ↔ T (factorOk x)
 unfolding badFactor
 not-bad-factor-iff x = not-not-iff (factorOk x)
+
+pub not-bad-proportion-iff : (x : Float) → (¬ T (badProportion x)) ↔ T (proportionOk x)
+unfolding badProportion
+not-bad-proportion-iff x = not-not-iff (proportionOk x)
 
 -- the inks of circles, one by one; that of a circle that is nowhere is 0
 pub length-inks : (cs : List Circle) → length (inks cs) ≡ length cs
@@ -99,9 +106,9 @@ none-bad-iff bad Good e cs =
 
 -- ---- all of them
 
-pub layout-accepted-iff : (cs : List Circle) (factor : Float) (masks : List ℕ) (areas : List Float)
-    → (layoutRefusal cs factor masks areas ≡ 0) ↔ (WithinLimits cs factor masks areas × (¬ SameInk cs))
-layout-accepted-iff cs factor masks areas =
+pub card-accepted-iff : (cs : List Circle) (factor : Float) (masks : List ℕ) (areas : List Float)
+    → (cardRefusal cs factor masks areas ≡ 0) ↔ (WithinLimits cs factor masks areas × (¬ SameInk cs))
+card-accepted-iff cs factor masks areas =
     let circles = not-too-many-iff (length cs) in
     let lists = not-unequal-iff masks areas in
     let regions = not-too-many-regions-iff (length masks) in
@@ -110,7 +117,7 @@ layout-accepted-iff cs factor masks areas =
     let order = not-not-iff (rising masks) in
     let inside = not-bad-factor-iff factor in
     let different = not-same-ink-iff cs in
-    Iff·trans (layout-reads cs factor masks areas .accepted) (
+    Iff·trans (card-reads cs factor masks areas .accepted) (
       λ h. (
         record {
           few-circles = circles .0 (h .0);
@@ -141,6 +148,25 @@ layout-accepted-iff cs factor masks areas =
       ),
     )
 
--- what the steps of a layout need of it
-pub within-limits : (cs : List Circle) (factor : Float) (masks : List ℕ) (areas : List Float) → layoutRefusal cs factor masks areas ≡ 0 → WithinLimits cs factor masks areas
-within-limits cs factor masks areas h = layout-accepted-iff cs factor masks areas .0 h .0
+-- what the steps of a layout, and the file of a card, need of it
+pub within-limits : (cs : List Circle) (factor : Float) (masks : List ℕ) (areas : List Float) → cardRefusal cs factor masks areas ≡ 0 → WithinLimits cs factor masks areas
+within-limits cs factor masks areas h = card-accepted-iff cs factor masks areas .0 h .0
+
+-- ---- the layout: its card's number, and where that is 0, what the proportion decides
+module _ (cs : List Circle) (factor : Float) (masks : List ℕ) (areas : List Float) where
+  pub layout-takes : (proportion : Float) → layoutRefusal cs factor masks areas proportion
+      ≡ cond (eqb (cardRefusal cs factor masks areas) 0) (cond (badProportion proportion) 16 0) (cardRefusal cs factor masks areas)
+  layout-takes proportion =
+      rw (layout-reads cs factor masks areas proportion .runs, card-reads cs factor masks areas .runs) (last-check _ 16 (badProportion proportion) tt)
+
+  pub layout-accepted-iff : (proportion : Float)
+      → (layoutRefusal cs factor masks areas proportion ≡ 0) ↔ ((cardRefusal cs factor masks areas ≡ 0) × T (proportionOk proportion))
+  layout-accepted-iff proportion =
+      let each = last-accepts-iff (cardRefusal cs factor masks areas) 16 (badProportion proportion) (omega arith) in
+      let inside = not-bad-proportion-iff proportion in
+      rw (layout-takes proportion) (λ e. (each .0 e .0, inside .0 (each .0 e .1)), λ h. each .1 (h .0, inside .1 (h .1)))
+
+  -- 1.618 is in range, so `card` is refused for its values alone
+  pub layout-at-golden : layoutRefusal cs factor masks areas golden ≡ cardRefusal cs factor masks areas
+  unfolding computing
+  layout-at-golden = layout-takes golden ∙ last-passes (cardRefusal cs factor masks areas) 16

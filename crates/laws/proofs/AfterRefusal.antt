@@ -11,7 +11,6 @@ use Rattle.rounding.specs.Root.{root}
 use Rattle.shapes.specs.declared.point.Point.{Point}
 use Rattle.shapes.specs.declared.circle.Circle.{Circle}
 use Rattle.shapes.specs.declared.rectangle.Rectangle.{Rectangle}
-use Rattle.scope.specs.Numbers.{golden}
 use Rattle.scope.specs.Runs.{filled}
 use Rattle.scope.specs.Refusals.{refused, given, answer, pointsRefusal, pairRefusal, circlePointRefusal, circlesRefusal, regionsRefusal, columnsRefusal, packRefusal, containerRefusal, layoutRefusal, writerRefusal, textRefusal}
 use Rattle.scope.specs.Distance.{rootRefusal, rootAnswer, distance, distanceAnswer, circleDistance, circleDistanceAnswer, contains, containsAnswer, containsPoint, containsPointAnswer, intersects, intersectsAnswer}
@@ -66,9 +65,10 @@ pub intersects-answers : (a b : Circle) → Answers refusalOf (pairRefusal a b) 
 unfolding intersectsAnswer
 intersects-answers a b = answer-answers _ _
 
-pub columns-answers : (k : ℕ) → Answers refusalOf (columnsRefusal k) (columnsAnswer k) refused (given (columns k golden))
+pub columns-answers : (k : ℕ) (proportion : Float)
+    → Answers refusalOf (columnsRefusal k proportion) (columnsAnswer k proportion) refused (given (columns k proportion))
 unfolding columnsAnswer
-columns-answers k = answer-answers _ _
+columns-answers k proportion = answer-answers _ _
 
 pub read-field-answers : (file : List ℕ) (at : ℕ)
     → Answers refusalOf (fieldRefusal (drop at file)) (readField file at) refused (given (fieldOf (tag (drop at file)) (body (drop at file))))
@@ -99,12 +99,12 @@ plain-grouping-answers cs = grouping-answers (circlesRefusal cs) (plainClusters 
 
 -- ---- packing: all rectangles 0
 
-pub packing-answers : (rects : List Rectangle) (padding : Float)
-    → Answers (λ (a : Packing). a .refusal) (packRefusal rects padding) (skylinePack rects padding) refusedPacking
-    (acceptedPacking (packed golden rects padding))
+pub packing-answers : (rects : List Rectangle) (padding proportion : Float)
+    → Answers (λ (a : Packing). a .refusal) (packRefusal rects padding proportion) (skylinePack rects padding proportion) refusedPacking
+    (acceptedPacking (packed proportion rects padding))
 unfolding skylinePack packing
-packing-answers rects padding =
-    by-number (λ a. a .refusal) refusedPacking (λ k. packing k (packed golden rects padding)) refl (λ k. refl) (λ k. refl) (packRefusal rects padding)
+packing-answers rects padding proportion =
+    by-number (λ a. a .refusal) refusedPacking (λ k. packing k (packed proportion rects padding)) refl (λ k. refl) (λ k. refl) (packRefusal rects padding proportion)
 
 -- ---- container: it and the circles as given
 
@@ -117,13 +117,13 @@ container-answers cs container =
 
 -- ---- whole layout: no clusters, nothing moved, padding 0, the circles as given
 
-pub layout-answers : (cs : List Circle) (factor : Float) (masks : List ℕ) (areas : List Float)
-    → Answers (λ (l : Layout). l .result .refusal) (layoutRefusal cs factor masks areas) (layout cs factor masks areas) (λ k. refusedLayout k cs)
-    (arranged golden cs factor (regions masks areas))
+pub layout-answers : (cs : List Circle) (factor : Float) (masks : List ℕ) (areas : List Float) (proportion : Float)
+    → Answers (λ (l : Layout). l .result .refusal) (layoutRefusal cs factor masks areas proportion) (layout cs factor masks areas proportion)
+    (λ k. refusedLayout k cs) (arranged proportion cs factor (regions masks areas))
 unfolding layout ifAccepted arranged refusedLayout
-layout-answers cs factor masks areas =
-    by-number (λ l. l .result .refusal) (λ k. refusedLayout k cs) (λ k. ifAccepted k cs (arranged golden cs factor (regions masks areas))) refl (λ k. refl) (λ k. refl)
-    (layoutRefusal cs factor masks areas)
+layout-answers cs factor masks areas proportion =
+    by-number (λ l. l .result .refusal) (λ k. refusedLayout k cs) (λ k. ifAccepted k cs (arranged proportion cs factor (regions masks areas))) refl (λ k. refl) (λ k. refl)
+    (layoutRefusal cs factor masks areas proportion)
 
 -- ---- saved: nothing written, the lent list as it was
 

@@ -10,7 +10,6 @@ use lib.ListN.{take, length, length-take, take-append-drop}
 use lib.Ieee.{Float}
 use Rattle.shapes.specs.declared.circle.Circle.{Circle}
 use Rattle.shapes.specs.declared.rectangle.Rectangle.{Rectangle}
-use Rattle.scope.specs.Numbers.{golden}
 use Rattle.scope.specs.Refusals.{Checks, frontToBack, tooMany}
 use Rattle.scope.specs.Links.{regions}
 use Rattle.scope.specs.Groups.{Grouping, plainClusters, refusedGrouping, acceptedGrouping}
@@ -72,15 +71,15 @@ module _ (n : ℕ) (cs : List Circle) where
 
 -- ---- packing
 
-module _ (n : ℕ) (rects : List Rectangle) (padding : Float) where
+module _ (n : ℕ) (rects : List Rectangle) (padding proportion : Float) where
   pub first-packing-answers :
-      Answers (λ (a : Packing). a .refusal) (frontToBack (firstPackChecks n rects padding)) (firstPacking n rects padding) refusedPacking
-      (acceptedPacking (packed golden (take n rects) padding))
+      Answers (λ (a : Packing). a .refusal) (frontToBack (firstPackChecks n rects padding proportion)) (firstPacking n rects padding proportion) refusedPacking
+      (acceptedPacking (packed proportion (take n rects) padding))
   unfolding firstPacking
   first-packing-answers =
-      counted n _ _ (first-few n rects) (λ k. refl) (rw (pack-reads (take n rects) padding .runs) at (packing-answers (take n rects) padding))
+      counted n _ _ (first-few n rects) (λ k. refl) (rw (pack-reads (take n rects) padding proportion .runs) at (packing-answers (take n rects) padding proportion))
 
-  pub first-packing-reads : Reads (firstPacking n rects padding .refusal) (firstPackChecks n rects padding)
+  pub first-packing-reads : Reads (firstPacking n rects padding proportion .refusal) (firstPackChecks n rects padding proportion)
   first-packing-reads = rw (first-packing-answers .says) (front-to-back-reads _ tt)
 
 -- ---- container: it and all circles of the array as given
@@ -100,17 +99,17 @@ module _ (n : ℕ) (cs : List Circle) (container : Rectangle) where
 
 -- ---- whole layout: nothing but the number, and all circles of the array as given
 
-module _ (n : ℕ) (cs : List Circle) (factor : Float) (masks : List ℕ) (areas : List Float) where
+module _ (n : ℕ) (cs : List Circle) (factor : Float) (masks : List ℕ) (areas : List Float) (proportion : Float) where
   pub first-layout-answers :
-      Answers (λ (l : Layout). l .result .refusal) (frontToBack (firstLayoutChecks n cs factor masks areas)) (firstLayout n cs factor masks areas)
-      (λ k. refusedLayout k cs) (withOthers n cs (arranged golden (take n cs) factor (regions masks areas)))
+      Answers (λ (l : Layout). l .result .refusal) (frontToBack (firstLayoutChecks n cs factor masks areas proportion)) (firstLayout n cs factor masks areas proportion)
+      (λ k. refusedLayout k cs) (withOthers n cs (arranged proportion (take n cs) factor (regions masks areas)))
   unfolding firstLayout refusedLayout
   first-layout-answers =
       counted n _ _ (first-few n cs) (λ k. refl)
       (inside (withOthers n cs) (λ a. refl) (λ k. rw (take-append-drop n cs))
-      (rw (layout-reads (take n cs) factor masks areas .runs) at (layout-answers (take n cs) factor masks areas)))
+      (rw (layout-reads (take n cs) factor masks areas proportion .runs) at (layout-answers (take n cs) factor masks areas proportion)))
 
-  pub first-layout-reads : Reads (firstLayout n cs factor masks areas .result .refusal) (firstLayoutChecks n cs factor masks areas)
+  pub first-layout-reads : Reads (firstLayout n cs factor masks areas proportion .result .refusal) (firstLayoutChecks n cs factor masks areas proportion)
   first-layout-reads = rw (first-layout-answers .says) (front-to-back-reads _ tt)
 
 -- ---- saved: nothing written, the lent list as it was

@@ -7,13 +7,17 @@ use mathlib.Core.List.{List, []}
 use lib.ListN.{length, getD, drop}
 use borrow.Author.Tests.{lt-ltb, le-ltb}
 use Rattle.algebra.proofs.Size.{either}
+use Rattle.scope.specs.Numbers.{golden}
 use Rattle.scope.specs.Limits.{inputCap}
 use Rattle.scope.specs.Refusals.{Answer, refused, given}
-use Rattle.scope.specs.Layout.{Layout, layout}
+use Rattle.scope.specs.Links.{regions}
+use Rattle.scope.specs.Layout.{Layout, arranged}
 use Rattle.scope.specs.CardFile.{Card, valuesRefusal, readCard}
 use Rattle.scope.specs.Text.{bytes}
 use Rattle.scope.specs.Print.{decimal, printed, refusedText, answerText, cardText}
 use Rattle.laws.specs.CardFiles.{Reaches, InputRefused, too-long, by-card}
+use Rattle.laws.proofs.Accepted.{layout-at-golden}
+use Rattle.laws.proofs.AfterRefusal.{layout-answers}
 use Rattle.laws.proofs.CardFiles.{card-both-ways}
 use Rattle.laws.proofs.Decimal.{readOn, read-last, decimal-read}
 
@@ -41,10 +45,14 @@ module _ (input : List ℕ) where
   unfolding cardText
   short-text h = rw (le-ltb inputCap (length input) h)
 
+  -- of circles that are laid out, at 1.618
   pub accepted-text : (card : Card) → length input ≤ inputCap → Reaches input card [] → valuesRefusal card ≡ 0
-      → cardText input ≡ printed (layout (card .circles) (card .factor) (card .masks) (card .areas))
+      → cardText input ≡ printed (arranged golden (card .circles) (card .factor) (regions (card .masks) (card .areas)))
   unfolding answerText
-  accepted-text card h r z = short-text h ∙ ap answerText (card-both-ways input .gives card .1 (r, z))
+  accepted-text card h r z =
+      let accepted = layout-at-golden (card .circles) (card .factor) (card .masks) (card .areas) ∙ z in
+      short-text h ∙ ap answerText (card-both-ways input .gives card .1 (r, z))
+      ∙ ap printed (layout-answers (card .circles) (card .factor) (card .masks) (card .areas) golden .on-acceptance accepted)
 
   pub text-refused-iff : (k : ℕ) → k ≢ 0 → (cardText input ≡ refusedText k) ↔ InputRefused input k
   unfolding answerText

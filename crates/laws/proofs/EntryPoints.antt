@@ -3,7 +3,7 @@ use Prim.Native.Nat.{ℕ, suc}
 use native.Mathlib.Omega.{arith}
 use mathlib.Core.Logic.{_≢_}
 use mathlib.Core.Bool.{not, _&&_, _||_, or-false}
-use mathlib.Core.List.{List, [], _∷_}
+use mathlib.Core.List.{List, [], _∷_, _++_}
 use lib.ListN.{length}
 use lib.Dec.{eqb}
 use lib.Ieee.{Float}
@@ -12,7 +12,7 @@ use Rattle.shapes.specs.declared.circle.Circle.{Circle}
 use Rattle.shapes.specs.declared.rectangle.Rectangle.{Rectangle}
 use Rattle.scope.specs.Runs.{any}
 use Rattle.scope.specs.Limits.{circleCap}
-use Rattle.scope.specs.Refusals.{causes, causeHolds, first, refusal, frontToBack, tooMany, unequal, tooManyRegions, badPoint, badCentre, badRadius, rising, badFactor, badSide, badPadding, sameInk, pointsRefusal, pairRefusal, circlePointRefusal, circlesRefusal, regionsRefusal, columnsRefusal, packRefusal, containerRefusal, layoutRefusal, tooShort, writerRefusal, textRefusal}
+use Rattle.scope.specs.Refusals.{causes, causeHolds, first, refusal, frontToBack, tooMany, unequal, tooManyRegions, badPoint, badCentre, badRadius, rising, badSide, badPadding, sameInk, pointsRefusal, pairRefusal, circlePointRefusal, circlesRefusal, regionsRefusal, columnsRefusal, packRefusal, containerRefusal, cardChecks, cardRefusal, layoutRefusal, tooShort, writerRefusal, textRefusal, badProportion}
 use Rattle.scope.specs.Distance.{noRoot, rootRefusal}
 use Rattle.scope.specs.CardFile.{Card, tag, headCut, bodyCut, unknown, wrongLength, misplaced, fieldRefusal, firstRefusal, nextRefusal}
 use Rattle.laws.specs.BothWays.{Reads}
@@ -43,14 +43,15 @@ pub regions-reads : (n : ℕ) (masks : List ℕ) (areas : List Float)
 unfolding regionsRefusal refusal first causeHolds causes frontToBack
 regions-reads n masks areas = as-front-to-back _ tt (simp or-false)
 
-pub columns-reads : (k : ℕ) → Reads (columnsRefusal k) ((1, tooMany k) ∷ [])
+pub columns-reads : (k : ℕ) (proportion : Float) → Reads (columnsRefusal k proportion) ((1, tooMany k) ∷ (16, badProportion proportion) ∷ [])
 unfolding columnsRefusal refusal first causeHolds causes frontToBack
-columns-reads k = as-front-to-back _ tt (simp or-false)
+columns-reads k proportion = as-front-to-back _ tt (simp or-false)
 
-pub pack-reads : (rects : List Rectangle) (padding : Float)
-    → Reads (packRefusal rects padding) ((1, tooMany (length rects)) ∷ (7, any badSide rects) ∷ (8, badPadding padding) ∷ [])
+pub pack-reads : (rects : List Rectangle) (padding proportion : Float)
+    → Reads (packRefusal rects padding proportion)
+    ((1, tooMany (length rects)) ∷ (7, any badSide rects) ∷ (8, badPadding padding) ∷ (16, badProportion proportion) ∷ [])
 unfolding packRefusal refusal first causeHolds causes frontToBack
-pack-reads rects padding = as-front-to-back _ tt (simp or-false)
+pack-reads rects padding proportion = as-front-to-back _ tt (simp or-false)
 
 pub container-reads : (cs : List Circle) (container : Rectangle)
     → Reads (containerRefusal cs container)
@@ -58,17 +59,18 @@ pub container-reads : (cs : List Circle) (container : Rectangle)
 unfolding containerRefusal refusal first causeHolds causes frontToBack
 container-reads cs container = as-front-to-back _ tt (simp or-false)
 
-pub layout-reads : (cs : List Circle) (factor : Float) (masks : List ℕ) (areas : List Float)
-    → Reads (layoutRefusal cs factor masks areas)
-    ((1, tooMany (length cs)) ∷ (13, unequal masks areas) ∷ (2, tooManyRegions (length masks)) ∷ (3, any badCentre cs) ∷ (4, any badRadius cs)
-    ∷ (5, not (rising masks)) ∷ (6, badFactor factor) ∷ (14, sameInk cs) ∷ [])
+pub card-reads : (cs : List Circle) (factor : Float) (masks : List ℕ) (areas : List Float)
+    → Reads (cardRefusal cs factor masks areas) (cardChecks cs factor masks areas)
+unfolding cardRefusal refusal first causeHolds causes frontToBack
+card-reads cs factor masks areas = as-front-to-back _ tt (simp or-false)
+
+pub layout-reads : (cs : List Circle) (factor : Float) (masks : List ℕ) (areas : List Float) (proportion : Float)
+    → Reads (layoutRefusal cs factor masks areas proportion) (cardChecks cs factor masks areas ++ (16, badProportion proportion) ∷ [])
 unfolding layoutRefusal refusal first causeHolds causes frontToBack
-layout-reads cs factor masks areas = as-front-to-back _ tt (simp or-false)
+layout-reads cs factor masks areas proportion = as-front-to-back _ tt (simp or-false)
 
 pub writer-reads : (cs : List Circle) (factor : Float) (masks : List ℕ) (areas : List Float) (room size : ℕ)
-    → Reads (writerRefusal cs factor masks areas room size)
-    ((1, tooMany (length cs)) ∷ (13, unequal masks areas) ∷ (2, tooManyRegions (length masks)) ∷ (3, any badCentre cs) ∷ (4, any badRadius cs)
-    ∷ (5, not (rising masks)) ∷ (6, badFactor factor) ∷ (14, sameInk cs) ∷ (15, tooShort room size) ∷ [])
+    → Reads (writerRefusal cs factor masks areas room size) (cardChecks cs factor masks areas ++ (15, tooShort room size) ∷ [])
 unfolding writerRefusal refusal first causeHolds causes frontToBack
 writer-reads cs factor masks areas room size = as-front-to-back _ tt (simp or-false)
 
@@ -96,6 +98,7 @@ unfolding nextRefusal
 next-field-reads card rest = front-to-back-reads _ tt
 
 -- two circles are never "too many"
-pub two-circles-not-1 : (a b : Circle) (factor : Float) (masks : List ℕ) (areas : List Float) → layoutRefusal (a ∷ b ∷ []) factor masks areas ≢ 1
+pub two-circles-not-1 : (a b : Circle) (factor : Float) (masks : List ℕ) (areas : List Float) (proportion : Float)
+    → layoutRefusal (a ∷ b ∷ []) factor masks areas proportion ≢ 1
 unfolding causeHolds tooMany circleCap
-two-circles-not-1 a b factor masks areas e = only-for-its-cause (layout-reads (a ∷ b ∷ []) factor masks areas) 1 (omega arith) e
+two-circles-not-1 a b factor masks areas proportion e = only-for-its-cause (layout-reads (a ∷ b ∷ []) factor masks areas proportion) 1 (omega arith) e

@@ -2,8 +2,8 @@
 use Prim.Native.Nat.{ℕ}
 use mathlib.Core.Path.{_≡_, refl, sym}
 use mathlib.Core.Logic.{_↔_, inl, inr, ⊎-elim, _≢_}
-use mathlib.Core.Bool.{Bool, true, not, _&&_}
-use mathlib.Core.List.{[], _∷_}
+use mathlib.Core.Bool.{Bool, true, false, not, _&&_, cond}
+use mathlib.Core.List.{[], _∷_, _++_}
 use lib.Dec.{T, eqb}
 use Rattle.scope.specs.Refusals.{Checks, causeHolds, frontToBack}
 use Rattle.laws.specs.BothWays.{ComesBack, NoneHolds, Reads}
@@ -41,6 +41,34 @@ front-to-back-reads cs o = record { runs = refl; refused = comes-back cs; accept
 -- a number that is that of checks which run front to back
 pub as-front-to-back : {number : ℕ} (cs : Checks) → T (numbered cs) → number ≡ frontToBack cs → Reads number cs
 as-front-to-back cs o e = rw e (front-to-back-reads cs o)
+
+-- a check behind others decides only where none of them does
+pub last-check : (cs : Checks) (k : ℕ) (b : Bool) → T (numbered cs)
+    → frontToBack (cs ++ (k, b) ∷ []) ≡ cond (eqb (frontToBack cs) 0) (cond b k 0) (frontToBack cs)
+unfolding frontToBack
+last-check [] k b o = refl
+last-check (c ∷ cs) k b o =
+    let positive = and-iff (not (eqb (c .0) 0)) (numbered cs) .0 o in
+    elim (tested (c .1)) [
+      | yes h ↦ rw (is-true (c .1) h, is-false (eqb (c .0) 0) (not-iff (eqb (c .0) 0) .0 (positive .0)))
+      | no h ↦ rw (is-false (c .1) h) (last-check cs k b (positive .1))
+    ]
+
+pub last-passes : (number k : ℕ) → cond (eqb number 0) (cond false k 0) number ≡ number
+last-passes number k =
+    elim (tested (eqb number 0)) [ yes h ↦ rw (eqb-iff number 0 .0 h) | no h ↦ rw (is-false (eqb number 0) h) ]
+
+-- so that none refuses exactly if neither they nor it does
+pub last-accepts-iff : (number k : ℕ) (b : Bool) → k ≢ 0 → (cond (eqb number 0) (cond b k 0) number ≡ 0) ↔ ((number ≡ 0) × (¬ T b))
+last-accepts-iff number k b nz =
+    elim (tested (eqb number 0)) [
+      | yes h ↦ let z = eqb-iff number 0 .0 h in rw z (alone b)
+      | no h ↦ rw (is-false (eqb number 0) h) (λ e. absurd (h (eqb-iff number 0 .1 e)), λ f. f .0)
+    ]
+  where
+    alone : (b : Bool) → (cond b k 0 ≡ 0) ↔ (_≡_ {A = ℕ} 0 0 × (¬ T b))
+    alone true = (λ e. absurd (nz e), λ h. absurd (h .1 tt))
+    alone false = (λ e. (refl, λ t. t), λ h. refl)
 
 comes-back-holds : (cs : Checks) (k : ℕ) → ComesBack cs k → T (causeHolds cs k)
 unfolding causeHolds

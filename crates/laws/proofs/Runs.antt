@@ -2,15 +2,22 @@
 use Prim.Native.Nat.{ℕ, zero, suc, _+_, _-_, _≤_, _<_}
 use native.Mathlib.Omega.{arith}
 use native.Mathlib.Decide.{decLe, decLt}
-use mathlib.Core.Path.{_≡_, refl, ap, subst}
+use mathlib.Core.Path.{_≡_, refl, ap, _∙_, subst}
 use mathlib.Core.Logic.{_↔_, _⊎_, inl, inr, ⊎-elim}
 use mathlib.Core.Bool.{Bool, true, false, cond}
 use mathlib.Core.List.{List, [], _∷_, _++_}
-use lib.ListN.{length, getD, replicate, length-append, length-replicate, List·getD-append, List·getD-eq-default, getD-replicate}
+use lib.ListN.{length, getD, drop, replicate, length-append, length-replicate, List·getD-append, List·getD-eq-default, getD-replicate}
 use lib.Seq.{getD-append-add}
 use lib.Dec.{T}
 use Rattle.scope.specs.Runs.{tab, gather, many, least, someBelow, any, filled}
 use Rattle.laws.proofs.Cases.{or-iff, tested, is-true, is-false}
+
+-- ---- equal entries
+
+pub drop-replicate : {A : Type 0} (n w : ℕ) (z : A) → drop n (replicate w z) ≡ replicate (w - n) z
+drop-replicate zero w z = let e : w ≡ w - 0 = omega arith in ap (λ (k : ℕ). replicate k z) e
+drop-replicate (suc n) zero z = let e : 0 ≡ zero - suc n = omega arith in ap (λ (k : ℕ). replicate k z) e
+drop-replicate (suc n) (suc w) z = let e : w - n ≡ suc w - suc n = omega arith in drop-replicate n w z ∙ ap (λ (k : ℕ). replicate k z) e
 
 -- ---- tab
 

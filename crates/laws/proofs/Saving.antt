@@ -2,19 +2,18 @@
 use Prim.Native.Nat.{ℕ, _+_, _*_}
 use native.Mathlib.Omega.{arith}
 use mathlib.Core.Path.{_≡_, refl, sym, ap, _∙_}
-use mathlib.Core.Bool.{Bool, not, cond}
+use mathlib.Core.Bool.{cond}
 use mathlib.Core.List.{List, [], _∷_, _++_, append-assoc, append-nil}
-use lib.Dec.{T, eqb}
+use lib.Dec.{eqb}
 use lib.ListN.{length, length-append}
 use lib.Ieee.{Float}
 use Rattle.shapes.specs.declared.circle.Circle.{Circle}
-use Rattle.scope.specs.Refusals.{Checks, frontToBack, tooShort, layoutRefusal, writerRefusal}
+use Rattle.scope.specs.Refusals.{tooShort, cardRefusal, writerRefusal}
 use Rattle.scope.specs.CardFile.{Card, patternOf}
 use Rattle.scope.specs.Saving.{lowBytes, field, factorBody, circleBody, regionBody, circleFields, regionFields, fileOf, cardOf}
 use Rattle.laws.specs.Fields.{withCircle, withRegion}
-use Rattle.laws.proofs.Cases.{and-iff, not-iff, tested, is-true, is-false}
-use Rattle.laws.proofs.FrontToBack.{numbered}
-use Rattle.laws.proofs.EntryPoints.{layout-reads, writer-reads}
+use Rattle.laws.proofs.FrontToBack.{last-check}
+use Rattle.laws.proofs.EntryPoints.{card-reads, writer-reads}
 use Rattle.laws.proofs.Bytes.{length-low}
 
 -- ---- bodies and fields
@@ -101,21 +100,9 @@ file-length factor cs masks patterns e =
 
 -- ---- the number
 
--- a check behind others decides only where none of them does
-pub last-check : (cs : Checks) (k : ℕ) (b : Bool) → T (numbered cs)
-    → frontToBack (cs ++ (k, b) ∷ []) ≡ cond (eqb (frontToBack cs) 0) (cond b k 0) (frontToBack cs)
-unfolding frontToBack
-last-check [] k b o = refl
-last-check (c ∷ cs) k b o =
-    let positive = and-iff (not (eqb (c .0) 0)) (numbered cs) .0 o in
-    elim (tested (c .1)) [
-      | yes h ↦ rw (is-true (c .1) h, is-false (eqb (c .0) 0) (not-iff (eqb (c .0) 0) .0 (positive .0)))
-      | no h ↦ rw (is-false (c .1) h) (last-check cs k b (positive .1))
-    ]
-
--- "takes exactly the values that the reader takes": the layout's number, and where that is 0, what the output's room decides
+-- "takes exactly the values that the reader takes": the reader's number, and where that is 0, what the output's room decides
 pub writer-takes : (cs : List Circle) (factor : Float) (masks : List ℕ) (areas : List Float) (room size : ℕ)
     → writerRefusal cs factor masks areas room size
-    ≡ cond (eqb (layoutRefusal cs factor masks areas) 0) (cond (tooShort room size) 15 0) (layoutRefusal cs factor masks areas)
+    ≡ cond (eqb (cardRefusal cs factor masks areas) 0) (cond (tooShort room size) 15 0) (cardRefusal cs factor masks areas)
 writer-takes cs factor masks areas room size =
-    rw (writer-reads cs factor masks areas room size .runs, layout-reads cs factor masks areas .runs) (last-check _ 15 (tooShort room size) tt)
+    rw (writer-reads cs factor masks areas room size .runs, card-reads cs factor masks areas .runs) (last-check _ 15 (tooShort room size) tt)

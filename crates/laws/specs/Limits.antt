@@ -1,4 +1,4 @@
--- An accepted layout's inputs, value by value: they keep every limit and range of document 01, and no two circles have the same ink.
+-- An accepted card's values, one by one: they keep every limit and range of document 01, and no two circles have the same ink.
 use Prim.Native.Nat.{ℕ, _≤_, _<_}
 use mathlib.Core.Path.{_≡_}
 use mathlib.Core.List.{List}

@@ -70,13 +70,13 @@ module _ (n : ℕ) (cs : List Circle) (long : length cs ≡ maxCircles) (zs : Li
   enough h = let room = few n h in omega arith
 
   -- ---- the layout
-  module _ (xs ys rs : List Float) (is : List ℕ) (columns : Columns xs ys rs is) (factor : Float) (masks : List ℕ) (areas : List Float) (r : Result) (xs′ ys′ : List Float)
-      (said : Laid xs ys rs is n factor masks areas r xs′ ys′) where
-    laid : Laid (columnOf xsOf n) (columnOf ysOf n) (columnOf radiiOf n) (inkColumn n) n factor masks areas r xs′ ys′
+  module _ (xs ys rs : List Float) (is : List ℕ) (columns : Columns xs ys rs is) (factor : Float) (masks : List ℕ) (areas : List Float) (proportion : Float) (r : Result) (xs′ ys′ : List Float)
+      (said : Laid xs ys rs is n factor masks areas proportion r xs′ ys′) where
+    laid : Laid (columnOf xsOf n) (columnOf ysOf n) (columnOf radiiOf n) (inkColumn n) n factor masks areas proportion r xs′ ys′
     laid = rw (← columns .0, ← columns .1, ← columns .2, ← columns .3) said
 
-    as-run : tooMany n ≡ false → Laid (columnOf xsOf (length (take n cs))) (columnOf ysOf (length (take n cs))) (columnOf radiiOf (length (take n cs))) (inkColumn (length (take n cs))) (length (take n cs)) factor masks areas r xs′ ys′
-    as-run h = subst (λ (k : ℕ). Laid (columnOf xsOf k) (columnOf ysOf k) (columnOf radiiOf k) (inkColumn k) k factor masks areas r xs′ ys′) (sym (length-take-le n cs (enough h))) laid
+    as-run : tooMany n ≡ false → Laid (columnOf xsOf (length (take n cs))) (columnOf ysOf (length (take n cs))) (columnOf radiiOf (length (take n cs))) (inkColumn (length (take n cs))) (length (take n cs)) factor masks areas proportion r xs′ ys′
+    as-run h = subst (λ (k : ℕ). Laid (columnOf xsOf k) (columnOf ysOf k) (columnOf radiiOf k) (inkColumn k) k factor masks areas proportion r xs′ ys′) (sym (length-take-le n cs (enough h))) laid
 
     refused-many : tooMany n ≡ true → resultOf r ≡ refusedLayout 1 [] .result
     unfolding frontLayout
@@ -89,16 +89,16 @@ module _ (n : ℕ) (cs : List Circle) (long : length cs ≡ maxCircles) (zs : Li
     pub first-fits : writtenOf (r .refusal) n ≤ maxCircles
     first-fits =
         by-many n (λ h. let one = many-number h in rw (written-none (r .refusal) n (λ z. omega arith)) (omega arith))
-        (λ h. subst (λ (k : ℕ). writtenOf (r .refusal) k ≤ maxCircles) (length-take-le n cs (enough h)) (laid-fits (take n cs) zs ws factor masks areas r xs′ ys′ (as-run h) .1))
+        (λ h. subst (λ (k : ℕ). writtenOf (r .refusal) k ≤ maxCircles) (length-take-le n cs (enough h)) (laid-fits (take n cs) zs ws factor masks areas proportion r xs′ ys′ (as-run h) .1))
 
-    first-lays : tooMany n ≡ false → Lays (take n cs) factor masks areas r (recentred (writtenOf (r .refusal) n) xs′ ys′ (take n cs))
-    first-lays h = subst (λ (k : ℕ). Lays (take n cs) factor masks areas r (recentred (writtenOf (r .refusal) k) xs′ ys′ (take n cs))) (length-take-le n cs (enough h))
-        (laid-lays (take n cs) zs ws factor masks areas r xs′ ys′ (as-run h))
+    first-lays : tooMany n ≡ false → Lays (take n cs) factor masks areas proportion r (recentred (writtenOf (r .refusal) n) xs′ ys′ (take n cs))
+    first-lays h = subst (λ (k : ℕ). Lays (take n cs) factor masks areas proportion r (recentred (writtenOf (r .refusal) k) xs′ ys′ (take n cs))) (length-take-le n cs (enough h))
+        (laid-lays (take n cs) zs ws factor masks areas proportion r xs′ ys′ (as-run h))
 
     abbrev answer : Whole
     answer = record { result = resultOf r; circles = recentred (writtenOf (r .refusal) n) xs′ ys′ cs }
 
-    pub first-answer : answer ≡ firstLayout n cs factor masks areas
+    pub first-answer : answer ≡ firstLayout n cs factor masks areas proportion
     unfolding firstLayout refusedLayout
     first-answer =
         by-many n (λ h. let one = many-number h in rw (h, refused-many h, written-none (r .refusal) n (λ z. omega arith), recentred-none xs′ ys′ cs))

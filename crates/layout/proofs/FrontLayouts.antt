@@ -10,18 +10,17 @@ use lib.Ieee.{Float, nan, binary64, fits}
 use lib.ListN.{length, take, drop}
 use lib.Seq.{getD-take, take-at}
 use Rattle.shapes.specs.declared.circle.Circle.{Circle}
-use Rattle.scope.specs.Numbers.{golden}
 use Rattle.scope.specs.Runs.{any}
-use Rattle.scope.specs.Limits.{circleCap}
+use Rattle.scope.specs.Limits.{circleCap, proportionOk}
 use Rattle.scope.specs.Links.{regions}
-use Rattle.scope.specs.Refusals.{refusal, tooMany, unequal, tooManyRegions, rising, badCentre, badRadius, badFactor, sameInk, layoutRefusal}
+use Rattle.scope.specs.Refusals.{refusal, tooMany, unequal, tooManyRegions, rising, badCentre, badRadius, badFactor, sameInk, badProportion, layoutRefusal}
 use Rattle.scope.specs.Layout.{Result as Outcome, Layout, arranged, refusedLayout}
 use Rattle.scope.specs.Promises.{Promises}
 use Rattle.promises.specs.Demand3.{bound, AreDoubles, Demand3}
 use Rattle.laws.proofs.Cases.{is-false}
 use Rattle.laws.specs.Inks.{inked}
 use Rattle.laws.specs.Limits.{WithinLimits}
-use Rattle.laws.proofs.Accepted.{not-too-many-iff, within-limits}
+use Rattle.laws.proofs.Accepted.{not-too-many-iff, within-limits, layout-accepted-iff}
 use Rattle.laws.proofs.Inks.{length-inked, inked-at, bare-within, arranged-carries}
 use Rattle.laws.proofs.AfterRefusal.{layout-answers}
 use Rattle.promises.proofs.whole.Demand3.{layout-promises}
@@ -67,7 +66,7 @@ inked-doubles is cs factor d =
     inside i l = rw (length-inked is cs) at l
 
 -- ---- the number
-module _ (n : ℕ) (xs ys rs : List Float) (is : List ℕ) (factor : Float) (masks : List ℕ) (areas : List Float) where
+module _ (n : ℕ) (xs ys rs : List Float) (is : List ℕ) (factor : Float) (masks : List ℕ) (areas : List Float) (proportion : Float) where
   abbrev cs : List Circle
   cs = front n xs ys rs is
 
@@ -75,54 +74,56 @@ module _ (n : ℕ) (xs ys rs : List Float) (is : List ℕ) (factor : Float) (mas
   bare = bareFront n xs ys rs
 
   pub layout-number :
-      refusal ((1, tooMany n) ∷ (3, any badCentre cs) ∷ (4, any badRadius cs) ∷ (14, sameInk cs) ∷ (13, unequal masks areas) ∷ (2, tooManyRegions (length masks)) ∷ (5, not (rising masks)) ∷ (6, badFactor factor) ∷ [])
-      ≡ frontNumber n xs ys rs is factor masks areas
+      refusal ((1, tooMany n) ∷ (3, any badCentre cs) ∷ (4, any badRadius cs) ∷ (14, sameInk cs) ∷ (13, unequal masks areas) ∷ (2, tooManyRegions (length masks)) ∷ (5, not (rising masks)) ∷ (6, badFactor factor) ∷ (16, badProportion proportion) ∷ [])
+      ≡ frontNumber n xs ys rs is factor masks areas proportion
   unfolding frontNumber layoutRefusal
   layout-number =
-      layout-checks (tooMany n) (any badCentre cs) (any badRadius cs) (unequal masks areas) (tooManyRegions (length masks)) (not (rising masks)) (badFactor factor) (sameInk cs)
+      layout-checks (tooMany n) (any badCentre cs) (any badRadius cs) (unequal masks areas) (tooManyRegions (length masks)) (not (rising masks)) (badFactor factor) (sameInk cs) (badProportion proportion)
       ∙ counted-number n (length cs) _ (few-in-front n xs ys rs is)
 
-  pub number-none : frontNumber n xs ys rs is factor masks areas ≡ 0 → (n ≤ maxCircles) × (layoutRefusal cs factor masks areas ≡ 0)
+  pub number-none : frontNumber n xs ys rs is factor masks areas proportion ≡ 0 → (n ≤ maxCircles) × (layoutRefusal cs factor masks areas proportion ≡ 0)
   unfolding frontNumber circleCap
-  number-none z = let none = none-counted n (layoutRefusal cs factor masks areas) z in (none .1, none .2)
+  number-none z = let none = none-counted n (layoutRefusal cs factor masks areas proportion) z in (none .1, none .2)
 
-  pub bare-accepted : layoutRefusal cs factor masks areas ≡ 0 → WithinLimits bare factor masks areas
-  bare-accepted h = bare-within (take n is) bare factor masks areas (within-limits cs factor masks areas h)
+  pub bare-accepted : layoutRefusal cs factor masks areas proportion ≡ 0 → WithinLimits bare factor masks areas × T (proportionOk proportion)
+  bare-accepted h =
+      let accepted = layout-accepted-iff cs factor masks areas proportion .0 h in
+      (bare-within (take n is) bare factor masks areas (within-limits cs factor masks areas (accepted .0)), accepted .1)
 
   -- ---- a refusal
-  refused-result : frontNumber n xs ys rs is factor masks areas ≢ 0 → refusedLayout (frontNumber n xs ys rs is factor masks areas) [] .result ≡ frontLayout n xs ys rs is factor masks areas .result
+  refused-result : frontNumber n xs ys rs is factor masks areas proportion ≢ 0 → refusedLayout (frontNumber n xs ys rs is factor masks areas proportion) [] .result ≡ frontLayout n xs ys rs is factor masks areas proportion .result
   unfolding frontNumber frontLayout refusedLayout
   refused-result h =
-      by-many n (λ e. rw e) (λ e. let some : layoutRefusal cs factor masks areas ≢ 0 = rw e at h in rw (e, layout-answers cs factor masks areas .at-refusal some))
+      by-many n (λ e. rw e) (λ e. let some : layoutRefusal cs factor masks areas proportion ≢ 0 = rw e at h in rw (e, layout-answers cs factor masks areas proportion .at-refusal some))
 
-  pub laid-refused : (r : Result) (number : ℕ) → number ≡ frontNumber n xs ys rs is factor masks areas → number ≢ 0 → resultOf r ≡ refusedLayout number [] .result → Laid xs ys rs is n factor masks areas r xs ys
+  pub laid-refused : (r : Result) (number : ℕ) → number ≡ frontNumber n xs ys rs is factor masks areas proportion → number ≢ 0 → resultOf r ≡ refusedLayout number [] .result → Laid xs ys rs is n factor masks areas proportion r xs ys
   unfolding refusedLayout
   laid-refused r number e h same =
-      let some : frontNumber n xs ys rs is factor masks areas ≢ 0 = λ z. h (e ∙ z) in
+      let some : frontNumber n xs ys rs is factor masks areas proportion ≢ 0 = λ z. h (e ∙ z) in
       record { result = same ∙ rw e (refused-result some); long = λ z. absurd (never z); circles = λ z. absurd (never z); promises = λ z. absurd (never z) }
     where
       never : r .refusal ≡ 0 → ⊥
       never z = h (sym (ap (λ (o : Outcome). o .refusal) same) ∙ z)
 
   -- ---- an acceptance
-  module _ (room : n ≤ maxCircles) (h : layoutRefusal cs factor masks areas ≡ 0) where
-    whole : frontLayout n xs ys rs is factor masks areas ≡ arranged golden cs factor (regions masks areas)
+  module _ (room : n ≤ maxCircles) (h : layoutRefusal cs factor masks areas proportion ≡ 0) where
+    whole : frontLayout n xs ys rs is factor masks areas proportion ≡ arranged proportion cs factor (regions masks areas)
     unfolding frontLayout circleCap
-    whole = rw (is-false (tooMany n) (not-too-many-iff n .1 room)) (layout-answers cs factor masks areas .on-acceptance h)
+    whole = rw (is-false (tooMany n) (not-too-many-iff n .1 room)) (layout-answers cs factor masks areas proportion .on-acceptance h)
 
-    pub laid-accepted : AreDoubles bare factor → (r : Result) (xs₁ ys₁ : List Float) → length xs₁ ≡ n → length ys₁ ≡ n
-        → resultOf r ≡ arranged golden bare factor (regions masks areas) .result → circlesOf xs₁ ys₁ (take n rs) ≡ arranged golden bare factor (regions masks areas) .circles
-        → Laid xs ys rs is n factor masks areas r (xs₁ ++ drop (n - 0) xs) (ys₁ ++ drop (n - 0) ys)
-    laid-accepted doubles r xs₁ ys₁ long-x long-y same shows =
+    pub laid-accepted : AreDoubles bare factor → fits binary64 proportion ≡ true → (r : Result) (xs₁ ys₁ : List Float) → length xs₁ ≡ n → length ys₁ ≡ n
+        → resultOf r ≡ arranged proportion bare factor (regions masks areas) .result → circlesOf xs₁ ys₁ (take n rs) ≡ arranged proportion bare factor (regions masks areas) .circles
+        → Laid xs ys rs is n factor masks areas proportion r (xs₁ ++ drop (n - 0) xs) (ys₁ ++ drop (n - 0) ys)
+    laid-accepted doubles fit r xs₁ ys₁ long-x long-y same shows =
         let rest = regions masks areas in
-        let carried = arranged-carries golden factor rest (take n is) bare in
-        let result : resultOf r ≡ arranged golden cs factor rest .result = same ∙ sym (ap (λ (l : Layout). l .result) carried) in
-        let again : front n (xs₁ ++ drop (n - 0) xs) (ys₁ ++ drop (n - 0) ys) rs is ≡ arranged golden cs factor rest .circles =
+        let carried = arranged-carries proportion factor rest (take n is) bare in
+        let result : resultOf r ≡ arranged proportion cs factor rest .result = same ∙ sym (ap (λ (l : Layout). l .result) carried) in
+        let again : front n (xs₁ ++ drop (n - 0) xs) (ys₁ ++ drop (n - 0) ys) rs is ≡ arranged proportion cs factor rest .circles =
         rw (take-at xs₁ (drop (n - 0) xs) n long-x, take-at ys₁ (drop (n - 0) ys) n long-y, shows) (sym (ap (λ (l : Layout). l .circles) carried)) in
-        let all = layout-answers cs factor masks areas .on-acceptance h in
-        let kept : Promises bound cs rest (arranged golden cs factor rest .result) (arranged golden cs factor rest .circles) =
+        let all = layout-answers cs factor masks areas proportion .on-acceptance h in
+        let kept : Promises bound cs rest (arranged proportion cs factor rest .result) (arranged proportion cs factor rest .circles) =
         subst (λ (l : Layout). Promises bound cs rest (l .result) (l .circles)) all
-        (unfold Demand3 in layout-promises cs factor masks areas (inked-doubles (take n is) bare factor doubles) h) in
+        (unfold Demand3 in layout-promises cs factor masks areas proportion (inked-doubles (take n is) bare factor doubles) (rw fit tt) h) in
         record {
           result = result ∙ rw whole;
           long = λ z. rw (take-at xs₁ (drop (n - 0) xs) n long-x) long-x;

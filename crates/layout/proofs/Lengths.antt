@@ -12,11 +12,12 @@ use Rattle.scope.specs.Layout.{layout, refusedLayout}
 use Rattle.laws.proofs.AfterRefusal.{layout-answers}
 use Rattle.promises.proofs.whole.Lengths.{arranged-length}
 
-pub layout-length : (cs : List Circle) (factor : Float) (masks : List ℕ) (areas : List Float) → length (layout cs factor masks areas .circles) ≡ length cs
+pub layout-length : (cs : List Circle) (factor : Float) (masks : List ℕ) (areas : List Float) (proportion : Float)
+    → length (layout cs factor masks areas proportion .circles) ≡ length cs
 unfolding refusedLayout
-layout-length cs factor masks areas =
-    let answers = layout-answers cs factor masks areas in
-    elim (ℕ-discrete (layoutRefusal cs factor masks areas) 0) [
-      | yes z ↦ rw (answers .on-acceptance z) (arranged-length cs factor (regions masks areas))
+layout-length cs factor masks areas proportion =
+    let answers = layout-answers cs factor masks areas proportion in
+    elim (ℕ-discrete (layoutRefusal cs factor masks areas proportion) 0) [
+      | yes z ↦ rw (answers .on-acceptance z) (arranged-length proportion cs factor (regions masks areas))
       | no z ↦ rw (answers .at-refusal z)
     ]

@@ -11,7 +11,7 @@ use lib.Seq.{length-take-le, getD-take, take-at}
 use borrow.Author.Tests.{eq-eqb}
 use Rattle.shapes.specs.declared.circle.Circle.{Circle}
 use Rattle.shapes.specs.declared.rectangle.Rectangle.{Rectangle}
-use Rattle.scope.specs.Numbers.{nought, golden}
+use Rattle.scope.specs.Numbers.{nought}
 use Rattle.scope.specs.Refusals.{packRefusal}
 use Rattle.scope.specs.Packing.{rectangle, packed}
 use Rattle.scope.specs.Padding.{boxes, padding, packClusters}
@@ -58,11 +58,11 @@ boxes-in-front count m numbers cs a w u h a₀ w₀ u₀ h₀ e l =
     ) l
 
 -- ---- one cluster, or none
-pub few-clusters-stay : (count : ℕ) (numbers : List ℕ) (cs : List Circle) (factor : Float) → count < 2
-    → (nought ≡ padding (boxes count numbers cs) factor) × (cs ≡ packClusters golden numbers (boxes count numbers cs) (padding (boxes count numbers cs) factor) cs)
-few-clusters-stay count numbers cs factor h =
+pub few-clusters-stay : (count : ℕ) (numbers : List ℕ) (cs : List Circle) (factor proportion : Float) → count < 2
+    → (nought ≡ padding (boxes count numbers cs) factor) × (cs ≡ packClusters proportion numbers (boxes count numbers cs) (padding (boxes count numbers cs) factor) cs)
+few-clusters-stay count numbers cs factor proportion h =
     let few : length (boxes count numbers cs) < 2 = rw (boxes-length count numbers cs) h in
-    (sym (few-boxes-no-padding (boxes count numbers cs) factor few), few-stay golden numbers (boxes count numbers cs) (padding (boxes count numbers cs) factor) cs few)
+    (sym (few-boxes-no-padding (boxes count numbers cs) factor few), few-stay proportion numbers (boxes count numbers cs) (padding (boxes count numbers cs) factor) cs few)
 
 -- ---- what stands in front
 at-front : (k : ℕ) (l m : List Float) → take k l ≡ m → (a : ℕ) → a < k → at l a ≡ at m a
@@ -73,7 +73,7 @@ shifted-same : (count : ℕ) (numbers : List ℕ) (coords olds news olds′ news
 shifted-same count numbers coords olds news olds′ news′ even numbered o n =
     tab-equal (length coords) _ _ (λ i h. let below = numbered i (rw even h) in rw (o (getD numbers i 0) below, n (getD numbers i 0) below))
 
-module _ (count : ℕ) (numbers : List ℕ) (factor : Float) (xs ys rs : List Float) (even : length ys ≡ length xs) (all : length numbers ≡ length xs) (lifted : Lifted rs)
+module _ (count : ℕ) (numbers : List ℕ) (factor proportion : Float) (xs ys rs : List Float) (even : length ys ≡ length xs) (all : length numbers ≡ length xs) (lifted : Lifted rs)
     (few : count ≤ maxCircles) (numbered : InClusters count numbers) (many : 2 ≤ count) where
   abbrev cs : List Circle
   cs = circlesOf xs ys rs
@@ -93,41 +93,41 @@ module _ (count : ℕ) (numbers : List ℕ) (factor : Float) (xs ys rs : List Fl
     }
 
     -- the packing takes them
-    pub boxes-accepted : packRefusal rects pad ≡ 0 → sidesNumber count widths heights pad ≡ 0
-    boxes-accepted h = sides-accepted count widths heights rects sides pad few h
+    pub boxes-accepted : packRefusal rects pad proportion ≡ 0 → sidesNumber count widths heights pad proportion ≡ 0
+    boxes-accepted h = sides-accepted count widths heights rects sides pad proportion few h
 
     abbrev new : List Rectangle
-    new = packed golden rects pad
+    new = packed proportion rects pad
 
     length-new : length new ≡ count
-    length-new = length-packed count widths heights rects sides pad
+    length-new = length-packed count widths heights rects sides pad proportion
 
-    front-of : (f : List Rectangle → List Float) → length (f new) ≡ length new → (z : List Float) → (a : ℕ) → a < count → at (overwritten (f (packed golden (sided count widths heights) pad)) z) a ≡ at (f new) a
+    front-of : (f : List Rectangle → List Float) → length (f new) ≡ length new → (z : List Float) → (a : ℕ) → a < count → at (overwritten (f (packed proportion (sided count widths heights) pad)) z) a ≡ at (f new) a
     unfolding overwritten
-    front-of f e z a h = rw (← same-boxes count widths heights rects sides pad) (List·getD-append (f new) (drop (length (f new)) z) nan a (rw (e, length-new) h))
+    front-of f e z a h = rw (← same-boxes count widths heights rects sides pad proportion) (List·getD-append (f new) (drop (length (f new)) z) nan a (rw (e, length-new) h))
 
     -- the circles after both shifts
     pub clusters-packed : (r : ℕ) (new-xs new-ys new-xs′ new-ys′ xs′ ys′ : List Float) → r ≡ 0
-        → new-xs′ ≡ cond (eqb r 0) (overwritten (centreXs (packed golden (sided count widths heights) pad)) new-xs) new-xs
-        → new-ys′ ≡ cond (eqb r 0) (overwritten (centreYs (packed golden (sided count widths heights) pad)) new-ys) new-ys
+        → new-xs′ ≡ cond (eqb r 0) (overwritten (centreXs (packed proportion (sided count widths heights) pad)) new-xs) new-xs
+        → new-ys′ ≡ cond (eqb r 0) (overwritten (centreYs (packed proportion (sided count widths heights) pad)) new-ys) new-ys
         → xs′ ≡ shiftedBy numbers across new-xs′ xs → ys′ ≡ shiftedBy numbers up new-ys′ ys
-        → circlesOf xs′ ys′ rs ≡ packClusters golden numbers rects pad cs
+        → circlesOf xs′ ys′ rs ≡ packClusters proportion numbers rects pad cs
     clusters-packed r new-xs new-ys new-xs′ new-ys′ xs′ ys′ none nx ny x y =
         let yes = eq-eqb r 0 none in
-        let sx : new-xs′ ≡ overwritten (centreXs (packed golden (sided count widths heights) pad)) new-xs = nx ∙ rw yes in
-        let sy : new-ys′ ≡ overwritten (centreYs (packed golden (sided count widths heights) pad)) new-ys = ny ∙ rw yes in
+        let sx : new-xs′ ≡ overwritten (centreXs (packed proportion (sided count widths heights) pad)) new-xs = nx ∙ rw yes in
+        let sy : new-ys′ ≡ overwritten (centreYs (packed proportion (sided count widths heights) pad)) new-ys = ny ∙ rw yes in
         let same-x : xs′ ≡ shiftedBy numbers (centreXs rects) (centreXs new) xs = x ∙ shifted-same count numbers xs across new-xs′ (centreXs rects) (centreXs new) all numbered (at-front count across (centreXs rects) (l .across)) (λ a h. ap (λ (z : List Float). at z a) sx ∙ front-of centreXs (length-centre-xs new) new-xs a h) in
         let same-y : ys′ ≡ shiftedBy numbers (centreYs rects) (centreYs new) ys = y ∙ shifted-same count numbers ys up new-ys′ (centreYs rects) (centreYs new) (all ∙ sym even) numbered (at-front count up (centreYs rects) (l .up)) (λ a h. ap (λ (z : List Float). at z a) sy ∙ front-of centreYs (length-centre-ys new) new-ys a h) in
         rw (same-x, same-y)
-        (shift-shown numbers rects new xs ys rs even all (length-new ∙ sym long) (rw long numbered) lifted ∙ many-move golden numbers rects pad cs (rw long many))
+        (shift-shown numbers rects new xs ys rs even all (length-new ∙ sym long) (rw long numbered) lifted ∙ many-move proportion numbers rects pad cs (rw long many))
 
     -- the same, told by the calls: the padding asked for, the packing's number, what it wrote
-    pub packed-by : packRefusal rects pad ≡ 0 → (p : Float) (r : ℕ) (new-xs new-ys new-xs′ new-ys′ xs′ ys′ : List Float) → p ≡ pad → r ≡ sidesNumber count widths heights p
-        → new-xs′ ≡ cond (eqb r 0) (overwritten (centreXs (packed golden (sided count widths heights) p)) new-xs) new-xs
-        → new-ys′ ≡ cond (eqb r 0) (overwritten (centreYs (packed golden (sided count widths heights) p)) new-ys) new-ys
+    pub packed-by : packRefusal rects pad proportion ≡ 0 → (p : Float) (r : ℕ) (new-xs new-ys new-xs′ new-ys′ xs′ ys′ : List Float) → p ≡ pad → r ≡ sidesNumber count widths heights p proportion
+        → new-xs′ ≡ cond (eqb r 0) (overwritten (centreXs (packed proportion (sided count widths heights) p)) new-xs) new-xs
+        → new-ys′ ≡ cond (eqb r 0) (overwritten (centreYs (packed proportion (sided count widths heights) p)) new-ys) new-ys
         → xs′ ≡ shiftedBy numbers across new-xs′ xs → ys′ ≡ shiftedBy numbers up new-ys′ ys
-        → circlesOf xs′ ys′ rs ≡ packClusters golden numbers rects pad cs
+        → circlesOf xs′ ys′ rs ≡ packClusters proportion numbers rects pad cs
     packed-by ok p r new-xs new-ys new-xs′ new-ys′ xs′ ys′ same number nx ny x y =
-        clusters-packed r new-xs new-ys new-xs′ new-ys′ xs′ ys′ (number ∙ ap (λ (q : Float). sidesNumber count widths heights q) same ∙ boxes-accepted ok)
-        (nx ∙ ap (λ (q : Float). cond (eqb r 0) (overwritten (centreXs (packed golden (sided count widths heights) q)) new-xs) new-xs) same)
-        (ny ∙ ap (λ (q : Float). cond (eqb r 0) (overwritten (centreYs (packed golden (sided count widths heights) q)) new-ys) new-ys) same) x y
+        clusters-packed r new-xs new-ys new-xs′ new-ys′ xs′ ys′ (number ∙ ap (λ (q : Float). sidesNumber count widths heights q proportion) same ∙ boxes-accepted ok)
+        (nx ∙ ap (λ (q : Float). cond (eqb r 0) (overwritten (centreXs (packed proportion (sided count widths heights) q)) new-xs) new-xs) same)
+        (ny ∙ ap (λ (q : Float). cond (eqb r 0) (overwritten (centreYs (packed proportion (sided count widths heights) q)) new-ys) new-ys) same) x y

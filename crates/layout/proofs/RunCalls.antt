@@ -36,11 +36,11 @@ is-refusal : (k : ℕ) → k ≡ 1 → k ≡ 0 → ⊥
 is-refusal k one none = omega arith
 
 -- ---- document 01's own answers are of this kind
-layout-answering : (factor : Float) (masks : List ℕ) (areas : List Float) → Answering (λ cs. layoutRefusal cs factor masks areas) (λ cs. layout cs factor masks areas .circles)
+layout-answering : (factor : Float) (masks : List ℕ) (areas : List Float) (proportion : Float) → Answering (λ cs. layoutRefusal cs factor masks areas proportion) (λ cs. layout cs factor masks areas proportion .circles)
 unfolding frontToBack refusedLayout
-layout-answering factor masks areas = record {
-  many = λ cs h. rw (layout-reads cs factor masks areas .runs, h);
-  stays = λ cs h. rw (layout-answers cs factor masks areas .at-refusal h);
+layout-answering factor masks areas proportion = record {
+  many = λ cs h. rw (layout-reads cs factor masks areas proportion .runs, h);
+  stays = λ cs h. rw (layout-answers cs factor masks areas proportion .at-refusal h);
 }
 
 container-answering : (container : Rectangle) → Answering (λ cs. containerRefusal cs container) (λ cs. contained cs container .circles)
@@ -50,11 +50,11 @@ container-answering container = record {
   stays = λ cs h. rw (container-answers cs container .at-refusal h);
 }
 
-many-result : (factor : Float) (masks : List ℕ) (areas : List Float) (cs : List Circle) → tooMany (length cs) ≡ true → layout cs factor masks areas .result ≡ refusedLayout 1 [] .result
+many-result : (factor : Float) (masks : List ℕ) (areas : List Float) (proportion : Float) (cs : List Circle) → tooMany (length cs) ≡ true → layout cs factor masks areas proportion .result ≡ refusedLayout 1 [] .result
 unfolding refusedLayout
-many-result factor masks areas cs h =
-    let one = layout-answering factor masks areas .many cs h in
-    rw (layout-answers cs factor masks areas .at-refusal (is-refusal _ one), one)
+many-result factor masks areas proportion cs h =
+    let one = layout-answering factor masks areas proportion .many cs h in
+    rw (layout-answers cs factor masks areas proportion .at-refusal (is-refusal _ one), one)
 
 many-placed : (container : Rectangle) (cs : List Circle) → tooMany (length cs) ≡ true → placedOf (contained cs container) ≡ record { refusal = 1; container = container }
 many-placed container cs h =
@@ -79,26 +79,26 @@ module _ (cs : List Circle) (zs : List Float) (ws : List ℕ) where
   n = length cs
 
   -- ---- the layout
-  module _ (factor : Float) (masks : List ℕ) (areas : List Float) (r : Result) (xs′ ys′ : List Float) (e : Laid xs ys rs is n factor masks areas r xs′ ys′) where
-    result-said : resultOf r ≡ unlessMany n (refusedLayout 1 [] .result) (layout (front n xs ys rs is) factor masks areas .result)
+  module _ (factor : Float) (masks : List ℕ) (areas : List Float) (proportion : Float) (r : Result) (xs′ ys′ : List Float) (e : Laid xs ys rs is n factor masks areas proportion r xs′ ys′) where
+    result-said : resultOf r ≡ unlessMany n (refusedLayout 1 [] .result) (layout (front n xs ys rs is) factor masks areas proportion .result)
     unfolding frontLayout
-    result-said = e .result ∙ chosen (λ (l : Layout). l .result) (tooMany n) (refusedLayout 1 []) (layout (front n xs ys rs is) factor masks areas)
+    result-said = e .result ∙ chosen (λ (l : Layout). l .result) (tooMany n) (refusedLayout 1 []) (layout (front n xs ys rs is) factor masks areas proportion)
 
-    laid-answered : Answered (λ l. layoutRefusal l factor masks areas) (λ l. layout l factor masks areas .circles) xs ys rs is n (r .refusal) xs′ ys′
+    laid-answered : Answered (λ l. layoutRefusal l factor masks areas proportion) (λ l. layout l factor masks areas proportion .circles) xs ys rs is n (r .refusal) xs′ ys′
     unfolding Answered frontLayout refusedLayout
     laid-answered =
-        let number : r .refusal ≡ unlessMany n 1 (layoutRefusal (front n xs ys rs is) factor masks areas) =
-        ap (λ (o : Outcome). o .refusal) result-said ∙ chosen (λ (o : Outcome). o .refusal) (tooMany n) (refusedLayout 1 [] .result) (layout (front n xs ys rs is) factor masks areas .result)
-        ∙ ap (λ (k : ℕ). cond (tooMany n) 1 k) (layout-answers (front n xs ys rs is) factor masks areas .says) in
+        let number : r .refusal ≡ unlessMany n 1 (layoutRefusal (front n xs ys rs is) factor masks areas proportion) =
+        ap (λ (o : Outcome). o .refusal) result-said ∙ chosen (λ (o : Outcome). o .refusal) (tooMany n) (refusedLayout 1 [] .result) (layout (front n xs ys rs is) factor masks areas proportion .result)
+        ∙ ap (λ (k : ℕ). cond (tooMany n) 1 k) (layout-answers (front n xs ys rs is) factor masks areas proportion .says) in
         (number, λ z. e .circles z ∙ rw (none-counted n _ (sym number ∙ z) .0), e .long)
 
     pub laid-fits : (writtenOf (r .refusal) n ≤ n) × (writtenOf (r .refusal) n ≤ maxCircles)
-    laid-fits = answered-fits cs zs ws (layout-answering factor masks areas) (r .refusal) xs′ ys′ laid-answered
+    laid-fits = answered-fits cs zs ws (layout-answering factor masks areas proportion) (r .refusal) xs′ ys′ laid-answered
 
-    pub laid-lays : Lays cs factor masks areas r (recentred (writtenOf (r .refusal) n) xs′ ys′ cs)
+    pub laid-lays : Lays cs factor masks areas proportion r (recentred (writtenOf (r .refusal) n) xs′ ys′ cs)
     laid-lays =
-        let by = layout-answering factor masks areas in (
-          of-run n cs (front n xs ys rs is) (λ l. layout l factor masks areas .result) (refusedLayout 1 [] .result) (resultOf r) (run-back cs zs ws) (many-result factor masks areas cs) result-said,
+        let by = layout-answering factor masks areas proportion in (
+          of-run n cs (front n xs ys rs is) (λ l. layout l factor masks areas proportion .result) (refusedLayout 1 [] .result) (resultOf r) (run-back cs zs ws) (many-result factor masks areas proportion cs) result-said,
           answered-run cs zs ws by (r .refusal) xs′ ys′ laid-answered,
           λ z. subst (λ (l : List Circle). Promises bound l (regions masks areas) (resultOf r) (recentred (writtenOf (r .refusal) n) xs′ ys′ cs)) (run-back cs zs ws (not-many cs zs ws by (r .refusal) xs′ ys′ laid-answered z)) (rw (answered-shown cs zs ws by (r .refusal) xs′ ys′ laid-answered z) (e .promises z)),
         )

@@ -11,9 +11,8 @@ use lib.ListN.{length, take}
 use lib.Seq.{take-at}
 use Rattle.shapes.specs.declared.circle.Circle.{Circle}
 use Rattle.shapes.proofs.Lift.{lift-nan}
-use Rattle.scope.specs.Numbers.{golden}
 use Rattle.scope.specs.Runs.{filled}
-use Rattle.scope.specs.Limits.{circleCap, radiusOk}
+use Rattle.scope.specs.Limits.{circleCap, radiusOk, proportionOk}
 use Rattle.scope.specs.Links.{Region, regions, circle}
 use Rattle.scope.specs.Refusals.{rising, regionsRefusal}
 use Rattle.scope.specs.Groups.{Clusters, Grouping, clusters, areaGrouping}
@@ -105,16 +104,17 @@ module _ (xs ys rs : List Float) (factor : Float) (masks : List ℕ) (areas : Li
     length-numbers = rw front-numbers (clusters-numbering (length xs) regs (tolerance regs) .sized)
 
     -- ---- the parted circles, and what is made of them
-    module _ (doubles : AreDoubles (circlesOf xs ys rs) factor) (cs₁ : List Circle) (parted : cs₁ ≡ offset (circlesOf xs ys rs) regs .circles) where
-      pub clusters-packable : WithinPacking (a .count) (take (length xs - 0) (a .numbers)) (gauged (a .count) (take (length xs - 0) (a .numbers)) cs₁) factor
-      clusters-packable = rw (count-is, front-numbers, parted, ← length-shown xs ys rs) (layout-packs (circlesOf xs ys rs) factor masks areas doubles h)
+    module _ (doubles : AreDoubles (circlesOf xs ys rs) factor) (proportion : Float) (cs₁ : List Circle) (parted : cs₁ ≡ offset (circlesOf xs ys rs) regs .circles) where
+      pub clusters-packable : T (proportionOk proportion)
+          → WithinPacking (a .count) (take (length xs - 0) (a .numbers)) (gauged (a .count) (take (length xs - 0) (a .numbers)) cs₁) factor proportion
+      clusters-packable inside = rw (count-is, front-numbers, parted, ← length-shown xs ys rs) (layout-packs (circlesOf xs ys rs) factor masks areas proportion doubles h inside)
 
       pub whole-result : (moved : ℕ) (pad : Float) → moved ≡ offset (circlesOf xs ys rs) regs .mask
           → pad ≡ padding (boxes (a .count) (take (length xs - 0) (a .numbers)) (gauged (a .count) (take (length xs - 0) (a .numbers)) cs₁)) factor
-          → _≡_ {A = Result} (record { refusal = 0; count = a .count; numbers = a .numbers; moved = moved; padding = pad }) (arranged golden (circlesOf xs ys rs) factor regs .result)
+          → _≡_ {A = Result} (record { refusal = 0; count = a .count; numbers = a .numbers; moved = moved; padding = pad }) (arranged proportion (circlesOf xs ys rs) factor regs .result)
       unfolding arranged
       whole-result moved pad m p = rw (m, p, front-numbers, count-is, numbers-are, parted, length-shown xs ys rs)
 
-      pub whole-circles : settledClusters (a .count) (take (length xs - 0) (a .numbers)) factor (gauged (a .count) (take (length xs - 0) (a .numbers)) cs₁) ≡ arranged golden (circlesOf xs ys rs) factor regs .circles
+      pub whole-circles : settledClusters proportion (a .count) (take (length xs - 0) (a .numbers)) factor (gauged (a .count) (take (length xs - 0) (a .numbers)) cs₁) ≡ arranged proportion (circlesOf xs ys rs) factor regs .circles
       unfolding arranged
       whole-circles = rw (count-is, front-numbers, parted, length-shown xs ys rs)

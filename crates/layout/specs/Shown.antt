@@ -6,7 +6,6 @@ use lib.ListN.{length}
 use lib.Ieee.{Float}
 use Rattle.shapes.specs.declared.circle.Circle.{Circle}
 use Rattle.shapes.specs.declared.rectangle.Rectangle.{Rectangle}
-use Rattle.scope.specs.Numbers.{golden}
 use Rattle.scope.specs.Links.{regions}
 use Rattle.scope.specs.Offset.{Moved, offset}
 use Rattle.scope.specs.Gauge.{gauged}
@@ -35,8 +34,8 @@ partedOf xs ys rs masks areas = offset (circlesOf xs ys rs) (regions masks areas
 abbrev pub gaugedOf : ℕ → List ℕ → List Float → List Float → List Float → List Circle
 gaugedOf count numbers xs ys rs = gauged count numbers (circlesOf xs ys rs)
 
-abbrev pub arrangedOf : List Float → List Float → List Float → Float → List ℕ → List Float → Layout
-arrangedOf xs ys rs factor masks areas = arranged golden (circlesOf xs ys rs) factor (regions masks areas)
+abbrev pub arrangedOf : List Float → List Float → List Float → Float → List ℕ → List Float → Float → Layout
+arrangedOf xs ys rs factor masks areas proportion = arranged proportion (circlesOf xs ys rs) factor (regions masks areas)
 
 -- the boxes of the clusters of the circles that the lists show
 abbrev pub boxesOf : ℕ → List ℕ → List Float → List Float → List Float → List Rectangle
@@ -54,12 +53,12 @@ BoxRoom xs ys rs numbers across widths up heights =
     × InClusters (length across) numbers
 
 -- circles in count clusters which, as they stand in cs, are within the packing's ranges
-abbrev pub ToPack : ℕ → List ℕ → Float → List Float → List Float → List Float → List Circle → Type 0
-ToPack count numbers factor xs ys rs cs =
+abbrev pub ToPack : ℕ → List ℕ → Float → Float → List Float → List Float → List Float → List Circle → Type 0
+ToPack count numbers factor proportion xs ys rs cs =
     (length ys ≡ length xs)
     × (length rs ≡ length xs)
     × (length numbers ≡ length xs)
     × Lifted rs
     × (count ≤ maxCircles)
     × InClusters count numbers
-    × WithinPacking count numbers cs factor
+    × WithinPacking count numbers cs factor proportion

@@ -2,7 +2,9 @@
 ghost use mathlib.Core.Path.{_≡_};
 ghost use mathlib.Core.List.{List, []};
 ghost use Prim.Native.Nat.{ℕ, _≤_, _<_};
+ghost use lib.Dec.{T};
 ghost use lib.ListN.{length, take};
+ghost use Rattle.scope.specs.Limits.{proportionOk};
 ghost use Rattle.scope.specs.Links.{regions};
 ghost use Rattle.scope.specs.Refusals.{layoutRefusal};
 ghost use Rattle.scope.specs.Tolerance.{tolerance};
@@ -34,6 +36,7 @@ use clustering::tolerance;
 use intake::causes::number_of;
 use intake::causes::of_circles;
 use intake::causes::of_factor;
+use intake::causes::of_proportion;
 use intake::causes::of_regions;
 use intake::limits::MAX_CIRCLES;
 use intake::runs::split;
@@ -60,15 +63,16 @@ pub struct Layout {
 
 // Rewrites the centres of a lent run. A refused run is not written to.
 // Refused: too many circles (1), lists of unequal length (13), too many regions (2), a centre (3), a radius (4), masks that do not rise (5), the factor (6),
-// two circles of one ink (14).
+// two circles of one ink (14), the proportion (16).
 pub fn normalize_layout_with_clusters(
     circles: &mut [Circle],
     factor: f64,
     masks: &[u64],
     areas: &[f64],
+    proportion: f64,
 ) -> Result
-    ensures { λ r. ⌜ (resultOf r ≡ layout (now (circles .entry)) factor (now (masks .entry)) (now (areas .entry)) .result)
-        × (now (circles .exit) ≡ layout (now (circles .entry)) factor (now (masks .entry)) (now (areas .entry)) .circles)
+    ensures { λ r. ⌜ (resultOf r ≡ layout (now (circles .entry)) factor (now (masks .entry)) (now (areas .entry)) proportion .result)
+        × (now (circles .exit) ≡ layout (now (circles .entry)) factor (now (masks .entry)) (now (areas .entry)) proportion .circles)
         × (r .refusal ≡ 0 → Promises bound (now (circles .entry)) (regions (now (masks .entry)) (now (areas .entry))) (resultOf r) (now (circles .exit))) ⌝ }
 {
     let mut xs = [0.0; MAX_CIRCLES];
@@ -77,7 +81,17 @@ pub fn normalize_layout_with_clusters(
     let mut inks = [0u16; MAX_CIRCLES];
     let n = circles.len();
     split(circles, &mut xs, &mut ys, &mut radii, &mut inks);
-    let r = laid(&mut xs, &mut ys, &radii, &inks, n, factor, masks, areas);
+    let r = laid(
+        &mut xs,
+        &mut ys,
+        &radii,
+        &inks,
+        n,
+        factor,
+        masks,
+        areas,
+        proportion,
+    );
     join(circles, &xs, &ys, written(r.refusal, n));
     r
 }
@@ -89,8 +103,9 @@ pub fn normalize_layout_with_clusters_by_value(
     factor: f64,
     masks: &[u64],
     areas: &[f64],
+    proportion: f64,
 ) -> Layout
-    ensures answer { λ r. ⌜ laidOut r ≡ firstLayout n circles factor (now (masks .entry)) (now (areas .entry)) ⌝ }
+    ensures answer { λ r. ⌜ laidOut r ≡ firstLayout n circles factor (now (masks .entry)) (now (areas .entry)) proportion ⌝ }
     ensures promises { λ r. ⌜ (r .result .refusal ≡ 0 → Promises bound (take n circles) (regions (now (masks .entry)) (now (areas .entry)))
         (resultOf (r .result)) (take n (r .circles))) ⌝ }
 {
@@ -99,7 +114,17 @@ pub fn normalize_layout_with_clusters_by_value(
     let mut radii = [0.0; MAX_CIRCLES];
     let mut inks = [0u16; MAX_CIRCLES];
     split_array(circles, n, &mut xs, &mut ys, &mut radii, &mut inks);
-    let result = laid(&mut xs, &mut ys, &radii, &inks, n, factor, masks, areas);
+    let result = laid(
+        &mut xs,
+        &mut ys,
+        &radii,
+        &inks,
+        n,
+        factor,
+        masks,
+        areas,
+        proportion,
+    );
     Layout {
         result,
         circles: recentred(circles, &xs, &ys, written(result.refusal, n)),
@@ -116,17 +141,21 @@ fn laid(
     factor: f64,
     masks: &[u64],
     areas: &[f64],
+    proportion: f64,
 ) -> Result
-    ensures { λ r. ⌜ Laid (now (xs .entry)) (now (ys .entry)) (now (radii .entry)) (now (inks .entry)) n factor (now (masks .entry)) (now (areas .entry)) r
-        (now (xs .exit)) (now (ys .exit)) ⌝ }
+    ensures { λ r. ⌜ Laid (now (xs .entry)) (now (ys .entry)) (now (radii .entry)) (now (inks .entry)) n factor (now (masks .entry)) (now (areas .entry))
+        proportion r (now (xs .exit)) (now (ys .exit)) ⌝ }
 {
     let refusal = number_of(
-        of_circles(xs, ys, radii, inks, n) | of_regions(masks, areas) | of_factor(factor),
+        of_circles(xs, ys, radii, inks, n)
+            | of_regions(masks, areas)
+            | of_factor(factor)
+            | of_proportion(proportion),
     );
     if refusal != 0 {
         return refused(refusal);
     }
-    in_front(xs, ys, radii, n, factor, masks, areas)
+    in_front(xs, ys, radii, n, factor, masks, areas, proportion)
 }
 
 fn refused(number: u8) -> Result
@@ -150,12 +179,13 @@ fn in_front(
     factor: f64,
     masks: &[u64],
     areas: &[f64],
+    proportion: f64,
 ) -> Result
     requires { ⌜ (n ≤ maxCircles) × (length (now xs) ≡ maxCircles) × (length (now ys) ≡ maxCircles) × (length (now radii) ≡ maxCircles)
-        × WithinLimits (bareFront n (now xs) (now ys) (now radii)) factor (now masks) (now areas) ⌝ }
+        × WithinLimits (bareFront n (now xs) (now ys) (now radii)) factor (now masks) (now areas) × T (proportionOk proportion) ⌝ }
     ensures { λ r. ⌜ ((inks : List ℕ) → layoutRefusal (front n (now (xs .entry)) (now (ys .entry)) (now (radii .entry)) inks) factor
-        (now (masks .entry)) (now (areas .entry)) ≡ 0 → Laid (now (xs .entry)) (now (ys .entry)) (now (radii .entry)) inks n factor
-        (now (masks .entry)) (now (areas .entry)) r (now (xs .exit)) (now (ys .exit))) ⌝ }
+        (now (masks .entry)) (now (areas .entry)) proportion ≡ 0 → Laid (now (xs .entry)) (now (ys .entry)) (now (radii .entry)) inks n factor
+        (now (masks .entry)) (now (areas .entry)) proportion r (now (xs .exit)) (now (ys .exit))) ⌝ }
 {
     arranged(
         &mut xs[0..n],
@@ -164,6 +194,7 @@ fn in_front(
         factor,
         masks,
         areas,
+        proportion,
     )
 }
 
@@ -177,21 +208,30 @@ fn arranged(
     factor: f64,
     masks: &[u64],
     areas: &[f64],
+    proportion: f64,
 ) -> Result
     requires { ⌜ (length (now xs) ≤ maxCircles) × (length (now ys) ≡ length (now xs)) × (length (now radii) ≡ length (now xs))
         × WithinLimits (circlesOf (now xs) (now ys) (now radii)) factor (now masks) (now areas)
-        × AreDoubles (circlesOf (now xs) (now ys) (now radii)) factor ⌝ }
+        × AreDoubles (circlesOf (now xs) (now ys) (now radii)) factor × T (proportionOk proportion) ⌝ }
     ensures result { λ r. ⌜ resultOf r
-        ≡ arrangedOf (now (xs .entry)) (now (ys .entry)) (now (radii .entry)) factor (now (masks .entry)) (now (areas .entry)) .result ⌝ }
+        ≡ arrangedOf (now (xs .entry)) (now (ys .entry)) (now (radii .entry)) factor (now (masks .entry)) (now (areas .entry)) proportion .result ⌝ }
     ensures circles { λ r. ⌜ circlesOf (now (xs .exit)) (now (ys .exit)) (now (radii .entry))
-        ≡ arrangedOf (now (xs .entry)) (now (ys .entry)) (now (radii .entry)) factor (now (masks .entry)) (now (areas .entry)) .circles ⌝ }
+        ≡ arrangedOf (now (xs .entry)) (now (ys .entry)) (now (radii .entry)) factor (now (masks .entry)) (now (areas .entry)) proportion .circles ⌝ }
 {
     let n = xs.len();
     let tol = tolerance(areas);
     let moved = parted(xs, ys, radii, masks, areas, tol);
     let clusters = find_clusters_from_exclusive_regions(n, masks, areas, tol);
     let numbers = clusters.numbers;
-    let padding = placed(xs, ys, radii, &numbers[0..n], clusters.count, factor);
+    let padding = placed(
+        xs,
+        ys,
+        radii,
+        &numbers[0..n],
+        clusters.count,
+        factor,
+        proportion,
+    );
     Result {
         refusal: 0,
         count: clusters.count,
@@ -229,16 +269,17 @@ fn placed(
     numbers: &[u8],
     count: usize,
     factor: f64,
+    proportion: f64,
 ) -> f64
-    requires { ⌜ ToPack count (now numbers) factor (now xs) (now ys) (now radii) (gaugedOf count (now numbers) (now xs) (now ys) (now radii)) ⌝ }
+    requires { ⌜ ToPack count (now numbers) factor proportion (now xs) (now ys) (now radii) (gaugedOf count (now numbers) (now xs) (now ys) (now radii)) ⌝ }
     ensures padding { λ r. ⌜ r ≡ padding (boxes count (now (numbers .entry))
         (gaugedOf count (now (numbers .entry)) (now (xs .entry)) (now (ys .entry)) (now (radii .entry)))) factor ⌝ }
     ensures circles { λ r. ⌜ circlesOf (now (xs .exit)) (now (ys .exit)) (now (radii .entry))
-        ≡ settledClusters count (now (numbers .entry)) factor
+        ≡ settledClusters proportion count (now (numbers .entry)) factor
         (gaugedOf count (now (numbers .entry)) (now (xs .entry)) (now (ys .entry)) (now (radii .entry))) ⌝ }
 {
     gauged_clusters(xs, ys, numbers, count);
-    let padding = pack_clusters(xs, ys, radii, numbers, count, factor);
+    let padding = pack_clusters(xs, ys, radii, numbers, count, factor, proportion);
     center_layout(xs, ys, radii);
     padding
 }
@@ -251,10 +292,11 @@ fn pack_clusters(
     numbers: &[u8],
     count: usize,
     factor: f64,
+    proportion: f64,
 ) -> f64
-    requires { ⌜ ToPack count (now numbers) factor (now xs) (now ys) (now radii) (circlesOf (now xs) (now ys) (now radii)) ⌝ }
+    requires { ⌜ ToPack count (now numbers) factor proportion (now xs) (now ys) (now radii) (circlesOf (now xs) (now ys) (now radii)) ⌝ }
     ensures padding { λ r. ⌜ r ≡ padding (boxesOf count (now (numbers .entry)) (now (xs .entry)) (now (ys .entry)) (now (radii .entry))) factor ⌝ }
-    ensures circles { λ r. ⌜ Become (packedClusters count (now (numbers .entry)) factor)
+    ensures circles { λ r. ⌜ Become (packedClusters proportion count (now (numbers .entry)) factor)
         (now (xs .entry)) (now (ys .entry)) (now (radii .entry)) (now (xs .exit)) (now (ys .exit)) ⌝ }
 {
     if count < 2 {
@@ -273,6 +315,7 @@ fn pack_clusters(
         numbers,
         count,
         factor,
+        proportion,
         &mut across,
         &mut widths,
         &mut up,
@@ -282,7 +325,7 @@ fn pack_clusters(
     )
 }
 
-// What follows the factor is room to work in: the boxes' centres and sides, and their new centres.
+// What follows the proportion is room to work in: the boxes' centres and sides, and their new centres.
 fn in_grid(
     xs: &mut [f64],
     ys: &mut [f64],
@@ -290,6 +333,7 @@ fn in_grid(
     numbers: &[u8],
     count: usize,
     factor: f64,
+    proportion: f64,
     across: &mut [f64; MAX_CIRCLES],
     widths: &mut [f64; MAX_CIRCLES],
     up: &mut [f64; MAX_CIRCLES],
@@ -297,9 +341,9 @@ fn in_grid(
     new_xs: &mut [f64; MAX_CIRCLES],
     new_ys: &mut [f64; MAX_CIRCLES],
 ) -> f64
-    requires { ⌜ ToPack count (now numbers) factor (now xs) (now ys) (now radii) (circlesOf (now xs) (now ys) (now radii)) × (2 ≤ count) ⌝ }
+    requires { ⌜ ToPack count (now numbers) factor proportion (now xs) (now ys) (now radii) (circlesOf (now xs) (now ys) (now radii)) × (2 ≤ count) ⌝ }
     ensures padding { λ r. ⌜ r ≡ padding (boxesOf count (now (numbers .entry)) (now (xs .entry)) (now (ys .entry)) (now (radii .entry))) factor ⌝ }
-    ensures circles { λ r. ⌜ Become (packedClusters count (now (numbers .entry)) factor)
+    ensures circles { λ r. ⌜ Become (packedClusters proportion count (now (numbers .entry)) factor)
         (now (xs .entry)) (now (ys .entry)) (now (radii .entry)) (now (xs .exit)) (now (ys .exit)) ⌝ }
 {
     let padding = boxed_front(
@@ -314,7 +358,7 @@ fn in_grid(
         up,
         heights,
     );
-    pack_sides(widths, heights, count, padding, new_xs, new_ys);
+    pack_sides(widths, heights, count, padding, proportion, new_xs, new_ys);
     shift(xs, numbers, across, new_xs);
     shift(ys, numbers, up, new_ys);
     padding

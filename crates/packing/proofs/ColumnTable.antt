@@ -1,23 +1,28 @@
--- The table of column counts has the rule of document 01 at every entry: one test, computed over the whole table. And the column answer.
-use Prim.Native.Nat.{ℕ, zero, suc, _≤_, _<_}
+-- The table of column counts has the rule of document 01 at every entry for 1.618: one test, computed over the whole table. And the column answer.
+use Prim.Native.Nat.{ℕ, suc, _≤_, _<_}
 use native.Mathlib.Omega.{arith}
 use mathlib.Core.Path.{_≡_, refl, sym, ap, _∙_}
 use mathlib.Core.Logic.{_≢_}
-use mathlib.Core.Bool.{Bool, _&&_, cond}
+use mathlib.Core.Bool.{Bool, true, false}
 use mathlib.Core.List.{List, [], _∷_}
-use lib.Dec.{T, eqb, ltb, eqb→eq, ltb→lt}
+use lib.Dec.{T, eqb, eqb→eq}
 use lib.ListN.{getD}
+use lib.Ieee.{Float, binary64, eq, fits}
 use Rattle.algebra.proofs.Table.{every, at}
+use Rattle.rounding.specs.Value.{negative, Fin}
+use Rattle.rounding.proofs.Value.{val-mag}
+use Rattle.rounding.proofs.Unique.{val-unique}
+use Rattle.rounding.proofs.Order.{eq-is}
 use Rattle.scope.specs.Numbers.{golden}
-use Rattle.scope.specs.Limits.{circleCap}
-use Rattle.scope.specs.Refusals.{frontToBack, tooMany, columnsRefusal, refused, given}
+use Rattle.scope.specs.Limits.{circleCap, proportionOk}
+use Rattle.scope.specs.Refusals.{columnsRefusal, refused, given}
 use Rattle.scope.specs.Packing.{columns, columnsAnswer}
 use Rattle.scope.specs.Computing.{computing}
-use Rattle.laws.proofs.Cases.{and-iff}
+use Rattle.laws.proofs.Accepted.{not-too-many-iff, not-bad-proportion-iff}
 use Rattle.laws.proofs.EntryPoints.{columns-reads}
 use Rattle.intake.specs.Limits.{maxCircles}
 use Rattle.laws.proofs.AfterRefusal.{columns-answers}
-use Rattle.laws.proofs.Counted.{none-counted}
+use Rattle.promises.proofs.packing.Proportions.{Proportion, proportion-is}
 
 -- the columns of 1 to 64 boxes
 abbrev pub table : List ℕ
@@ -41,35 +46,34 @@ pub no-columns : columns 0 golden ≡ 0
 unfolding computing
 no-columns = refl
 
+-- ---- an f64 in range is a proportion
+pub proportion-good : (p : Float) → fits binary64 p ≡ true → T (proportionOk p) → Proportion p
+proportion-good p f t = proportion-is p (rw f tt) t
+
+-- ---- a proportion that equals 1.618 is it
+golden-fin : Fin binary64 golden
+unfolding computing Fin fits
+golden-fin = tt
+
+golden-sign : negative golden ≡ false
+unfolding computing negative
+golden-sign = refl
+
+pub golden-alone : (p : Float) → Proportion p → T (eq p golden) → p ≡ golden
+golden-alone p P t =
+    let same = rw (val-mag binary64 p (P .sign), val-mag binary64 golden golden-sign) at (eq-is binary64 p golden (P .fin) golden-fin .0 t) in
+    val-unique binary64 p golden (P .fin) golden-fin (P .sign ∙ sym golden-sign) (omega arith)
+
 -- ---- the answer
-columns-order : (k : ℕ) → columnsRefusal k ≡ cond (tooMany k) 1 0
-unfolding frontToBack
-columns-order k = columns-reads k .runs
+module _ (k : ℕ) (proportion : Float) where
+  pub columns-refused : (r : ℕ) → r ≡ columnsRefusal k proportion → r ≢ 0 → refused r ≡ columnsAnswer k proportion
+  columns-refused r e h = ap refused e ∙ sym (columns-answers k proportion .at-refusal (λ z. h (e ∙ z)))
 
-pub columns-refused : (k r : ℕ) → r ≡ columnsRefusal k → r ≢ 0 → refused r ≡ columnsAnswer k
-columns-refused k r e h = ap refused e ∙ sym (columns-answers k .at-refusal (λ z. h (e ∙ z)))
+  pub columns-given : columnsRefusal k proportion ≡ 0 → given (columns k proportion) ≡ columnsAnswer k proportion
+  columns-given h = sym (columns-answers k proportion .on-acceptance h)
 
-pub columns-given : (k : ℕ) → columnsRefusal k ≡ 0 → given (columns k golden) ≡ columnsAnswer k
-columns-given k h = sym (columns-answers k .on-acceptance h)
-
-pub columns-few : (k : ℕ) → columnsRefusal k ≡ 0 → k ≤ maxCircles
-unfolding circleCap
-columns-few k h = none-counted k 0 (sym (columns-order k) ∙ h) .1
-
--- ---- at least 2, and fewer than there may be boxes
-
-small : ℕ → ℕ → Bool
-small k x = ltb 1 x && ltb x maxCircles
-
-every-small : T (every small 0 table)
-unfolding small
-every-small = tt
-
-table-small : (k : ℕ) → k < maxCircles → T (ltb 1 (getD table k 0)) × T (ltb (getD table k 0) maxCircles)
-unfolding small
-table-small k h = and-iff (ltb 1 (getD table k 0)) (ltb (getD table k 0) maxCircles) .0 (at small 0 table every-small k h)
-
-pub columns-small : (k : ℕ) → 0 < k → k ≤ maxCircles → (1 < columns k golden) × (columns k golden < maxCircles)
-columns-small zero p h = absurd (omega arith)
-columns-small (suc k) p h =
-    rw (← table-is k h) (let t = table-small k h in (ltb→lt 1 (getD table k 0) (t .0), ltb→lt (getD table k 0) maxCircles (t .1)))
+  pub columns-asked : columnsRefusal k proportion ≡ 0 → (k ≤ maxCircles) × T (proportionOk proportion)
+  unfolding circleCap
+  columns-asked h =
+      let each = columns-reads k proportion .accepted .0 h in
+      (not-too-many-iff k .0 (each .0), not-bad-proportion-iff proportion .0 (each .1 .0))

@@ -1,5 +1,6 @@
 pub mod Arrays
 pub mod Grid
 pub mod ColumnTable
+pub mod Counting
 pub mod Packings
 pub mod PackedBoxes

@@ -4,7 +4,6 @@ use mathlib.Core.Path.{_≡_}
 use mathlib.Core.List.{List}
 use lib.ListN.{length, getD}
 use lib.Ieee.{Float}
-use Rattle.scope.specs.Numbers.{golden}
 use Rattle.scope.specs.Packing.{columns}
 use Rattle.intake.specs.Limits.{maxCircles}
 
@@ -14,9 +13,9 @@ pub record At {A : Type 0} (n : ℕ) (l : List A) (z : A) (f : ℕ → A) : Type
   pub is : (i : ℕ) → i < n → getD l i z ≡ f i
 
 -- the columns and the rows of n boxes, by their places
-pub record Lined (n : ℕ) (place : ℕ → ℕ) (cols rows : List ℕ) : Type 0 where
-  pub across : At n cols 0 (λ i. place i % columns n golden)
-  pub down : At n rows 0 (λ i. place i / columns n golden)
+pub record Lined (proportion : Float) (n : ℕ) (place : ℕ → ℕ) (cols rows : List ℕ) : Type 0 where
+  pub across : At n cols 0 (λ i. place i % columns n proportion)
+  pub down : At n rows 0 (λ i. place i / columns n proportion)
 
 -- the line that box b stands in, and each of n boxes stands in one of n lines
 abbrev pub lineOf : List ℕ → ℕ → ℕ

@@ -8,7 +8,7 @@ use lib.ListN.{length}
 use lib.Ieee.{Float}
 use Rattle.shapes.specs.Records.{pointAt, rectangleOf}
 use Rattle.shapes.specs.declared.rectangle.Rectangle.{Rectangle}
-use Rattle.scope.specs.Numbers.{nought, golden}
+use Rattle.scope.specs.Numbers.{nought}
 use Rattle.scope.specs.Runs.{tab}
 use Rattle.scope.specs.Refusals.{tooMany, packRefusal}
 use Rattle.scope.specs.Packing.{Packing, rectangle, widthAt, heightAt, packed, refusedPacking, skylinePack}
@@ -26,23 +26,23 @@ unfoldable pub centreYs : List Rectangle → List Float
 centreYs rects = tab (length rects) (λ i. rectangle rects i .center .y)
 
 -- where the centres of n boxes of these sides come to stand
-abbrev pub packedXs : ℕ → List Float → List Float → Float → List Float
-packedXs n widths heights padding = centreXs (packed golden (sided n widths heights) padding)
+abbrev pub packedXs : ℕ → List Float → List Float → Float → Float → List Float
+packedXs n widths heights padding proportion = centreXs (packed proportion (sided n widths heights) padding)
 
-abbrev pub packedYs : ℕ → List Float → List Float → Float → List Float
-packedYs n widths heights padding = centreYs (packed golden (sided n widths heights) padding)
+abbrev pub packedYs : ℕ → List Float → List Float → Float → Float → List Float
+packedYs n widths heights padding proportion = centreYs (packed proportion (sided n widths heights) padding)
 
 -- a list with another one written over its front, or after a refusal as it was
 abbrev pub unlessRefused : ℕ → List Float → List Float → List Float
 unlessRefused r front list = cond (eqb r 0) (overwritten front list) list
 
 -- the number that comes back for n boxes of these sides; with too many, no box is looked at
-unfoldable pub sidesNumber : ℕ → List Float → List Float → Float → ℕ
-sidesNumber n widths heights padding = cond (tooMany n) 1 (packRefusal (sided n widths heights) padding)
+unfoldable pub sidesNumber : ℕ → List Float → List Float → Float → Float → ℕ
+sidesNumber n widths heights padding proportion = cond (tooMany n) 1 (packRefusal (sided n widths heights) padding proportion)
 
 -- the whole answer
-unfoldable pub sidedPacking : ℕ → List Float → List Float → Float → Packing
-sidedPacking n widths heights padding = cond (tooMany n) (refusedPacking 1) (skylinePack (sided n widths heights) padding)
+unfoldable pub sidedPacking : ℕ → List Float → List Float → Float → Float → Packing
+sidedPacking n widths heights padding proportion = cond (tooMany n) (refusedPacking 1) (skylinePack (sided n widths heights) padding proportion)
 
 -- boxes of these sides
 pub record Sides (k : ℕ) (widths heights : List Float) (rects : List Rectangle) : Type 0 where

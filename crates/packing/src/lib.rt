@@ -1,14 +1,14 @@
-// Boxes in a grid whose width and height are near 1.618 to 1: the largest first, row by row.
+// Boxes in a grid whose width and height are near a proportion given with the call: the largest first, row by row.
 // The sides of the boxes stand in two lists, and so do the places that their centres come to.
 ghost use mathlib.Core.Path.{_≡_};
 ghost use mathlib.Core.Bool.{_&&_, _||_};
 ghost use Prim.Native.Nat.{_≤_, _<_};
-ghost use lib.Dec.{ltb};
+ghost use lib.Dec.{T, ltb};
 ghost use lib.ListN.{length};
 ghost use lib.Ieee.{nan, eq};
-ghost use Rattle.scope.specs.Numbers.{_<ᶠ_, _*ᶠ_, nought, golden};
+ghost use Rattle.scope.specs.Numbers.{_<ᶠ_, _*ᶠ_, nought, golden, whole, raised};
 ghost use Rattle.scope.specs.Runs.{tab, filled};
-ghost use Rattle.scope.specs.Limits.{circleCap};
+ghost use Rattle.scope.specs.Limits.{circleCap, within, proportionOk};
 ghost use Rattle.scope.specs.Packing.{
   noRectangle,
   widthAt,
@@ -29,10 +29,13 @@ ghost use Rattle.intake.specs.Columns.{at, overwritten};
 ghost use Rattle.packing.specs.Answers.{counted, packedBoxes};
 ghost use Rattle.packing.specs.Sides.{sidesNumber, sidedPacking, packedXs, packedYs, unlessRefused, boxAt};
 ghost use Rattle.packing.specs.Lists.{At, Lined, InLines, lineOf, FullLength};
+use geometry::lengths::root_or_nan;
 use intake::causes::number_of;
 use intake::causes::of_count;
 use intake::causes::of_padding;
+use intake::causes::of_proportion;
 use intake::causes::of_sides;
+use intake::limits::GOLDEN;
 use intake::limits::MAX_CIRCLES;
 use intake::limits::room;
 use intake::runs::split_sides;
@@ -53,37 +56,42 @@ pub struct Packed {
     pub rectangles: [Rectangle; MAX_CIRCLES],
 }
 
-// No boxes have 0 columns, and more than 64 give 1.
-pub fn columns(k: usize) -> ColumnCount
-    ensures { λ r. ⌜ counted r ≡ columnsAnswer k ⌝ }
+// No boxes have 0 columns. Refused: too many boxes (1), the proportion (16).
+pub fn columns(k: usize, proportion: f64) -> ColumnCount
+    ensures { λ r. ⌜ counted r ≡ columnsAnswer k proportion ⌝ }
 {
-    let refusal = number_of(of_count(k));
+    let refusal = number_of(of_count(k) | of_proportion(proportion));
     if refusal != 0 {
         return ColumnCount::Refused(refusal);
     }
-    ColumnCount::Of(columns_of(k))
+    ColumnCount::Of(columns_of(k, proportion))
 }
 
 // Of the boxes only the first n are looked at, and of those only the sides.
-// Refused: too many boxes (1), a side (7), the padding (8).
-pub fn skyline_pack_by_value(rectangles: [Rectangle; MAX_CIRCLES], n: usize, padding: f64) -> Packed
-    ensures { λ r. ⌜ packedBoxes r ≡ firstPacking n rectangles padding ⌝ }
+// Refused: too many boxes (1), a side (7), the padding (8), the proportion (16).
+pub fn skyline_pack_by_value(
+    rectangles: [Rectangle; MAX_CIRCLES],
+    n: usize,
+    padding: f64,
+    proportion: f64,
+) -> Packed
+    ensures { λ r. ⌜ packedBoxes r ≡ firstPacking n rectangles padding proportion ⌝ }
 {
     let mut widths = [0.0; MAX_CIRCLES];
     let mut heights = [0.0; MAX_CIRCLES];
     sides_of(rectangles, room(n), &mut widths, &mut heights);
-    packed_at(&widths, &heights, n, padding)
+    packed_at(&widths, &heights, n, padding, proportion)
 }
 
 // The same of a lent run of boxes, all of them.
-pub fn skyline_pack(rectangles: &[Rectangle], padding: f64) -> Packed
-    ensures { λ r. ⌜ packedBoxes r ≡ skylinePack (now (rectangles .entry)) padding ⌝ }
+pub fn skyline_pack(rectangles: &[Rectangle], padding: f64, proportion: f64) -> Packed
+    ensures { λ r. ⌜ packedBoxes r ≡ skylinePack (now (rectangles .entry)) padding proportion ⌝ }
 {
     let mut widths = [0.0; MAX_CIRCLES];
     let mut heights = [0.0; MAX_CIRCLES];
     let n = rectangles.len();
     split_sides(rectangles, &mut widths, &mut heights);
-    packed_at(&widths, &heights, n, padding)
+    packed_at(&widths, &heights, n, padding, proportion)
 }
 
 // The sides of the first m boxes.
@@ -106,12 +114,13 @@ fn packed_at(
     heights: &[f64; MAX_CIRCLES],
     n: usize,
     padding: f64,
+    proportion: f64,
 ) -> Packed
-    ensures { λ r. ⌜ packedBoxes r ≡ sidedPacking n (now (widths .entry)) (now (heights .entry)) padding ⌝ }
+    ensures { λ r. ⌜ packedBoxes r ≡ sidedPacking n (now (widths .entry)) (now (heights .entry)) padding proportion ⌝ }
 {
     let mut xs = [0.0; MAX_CIRCLES];
     let mut ys = [0.0; MAX_CIRCLES];
-    let refusal = pack_sides(widths, heights, n, padding, &mut xs, &mut ys);
+    let refusal = pack_sides(widths, heights, n, padding, proportion, &mut xs, &mut ys);
     if refusal != 0 {
         return refused(refusal);
     }
@@ -167,20 +176,21 @@ fn boxes_at(
 }
 
 // Where the centres of n boxes come to stand, by their sides: a refusal's number or 0.
-// Refused, and then nothing is written: too many boxes (1), a side (7), the padding (8).
+// Refused, and then nothing is written: too many boxes (1), a side (7), the padding (8), the proportion (16).
 pub fn pack_sides(
     widths: &[f64; MAX_CIRCLES],
     heights: &[f64; MAX_CIRCLES],
     n: usize,
     padding: f64,
+    proportion: f64,
     xs: &mut [f64; MAX_CIRCLES],
     ys: &mut [f64; MAX_CIRCLES],
 ) -> u8
-    ensures number { λ r. ⌜ r ≡ sidesNumber n (now (widths .entry)) (now (heights .entry)) padding ⌝ }
-    ensures x { λ r. ⌜ now (xs .exit) ≡ unlessRefused r (packedXs n (now (widths .entry)) (now (heights .entry)) padding) (now (xs .entry)) ⌝ }
-    ensures y { λ r. ⌜ now (ys .exit) ≡ unlessRefused r (packedYs n (now (widths .entry)) (now (heights .entry)) padding) (now (ys .entry)) ⌝ }
+    ensures number { λ r. ⌜ r ≡ sidesNumber n (now (widths .entry)) (now (heights .entry)) padding proportion ⌝ }
+    ensures x { λ r. ⌜ now (xs .exit) ≡ unlessRefused r (packedXs n (now (widths .entry)) (now (heights .entry)) padding proportion) (now (xs .entry)) ⌝ }
+    ensures y { λ r. ⌜ now (ys .exit) ≡ unlessRefused r (packedYs n (now (widths .entry)) (now (heights .entry)) padding proportion) (now (ys .entry)) ⌝ }
 {
-    pack_lists(widths, heights, n, padding, xs, ys)
+    pack_lists(widths, heights, n, padding, proportion, xs, ys)
 }
 
 fn pack_lists(
@@ -188,54 +198,75 @@ fn pack_lists(
     heights: &[f64],
     n: usize,
     padding: f64,
+    proportion: f64,
     xs: &mut [f64],
     ys: &mut [f64],
 ) -> u8
     requires { ⌜ FullLength (now widths) (now heights) (now xs) (now ys) ⌝ }
-    ensures number { λ r. ⌜ r ≡ sidesNumber n (now (widths .entry)) (now (heights .entry)) padding ⌝ }
-    ensures x { λ r. ⌜ now (xs .exit) ≡ unlessRefused r (packedXs n (now (widths .entry)) (now (heights .entry)) padding) (now (xs .entry)) ⌝ }
-    ensures y { λ r. ⌜ now (ys .exit) ≡ unlessRefused r (packedYs n (now (widths .entry)) (now (heights .entry)) padding) (now (ys .entry)) ⌝ }
+    ensures number { λ r. ⌜ r ≡ sidesNumber n (now (widths .entry)) (now (heights .entry)) padding proportion ⌝ }
+    ensures x { λ r. ⌜ now (xs .exit) ≡ unlessRefused r (packedXs n (now (widths .entry)) (now (heights .entry)) padding proportion) (now (xs .entry)) ⌝ }
+    ensures y { λ r. ⌜ now (ys .exit) ≡ unlessRefused r (packedYs n (now (widths .entry)) (now (heights .entry)) padding proportion) (now (ys .entry)) ⌝ }
 {
-    let refusal = pack_number(widths, heights, n, padding);
+    let refusal = pack_number(widths, heights, n, padding, proportion);
     if refusal != 0 {
         return refusal;
     }
-    in_front(widths, heights, n, padding, xs, ys);
+    in_front(widths, heights, n, padding, proportion, xs, ys);
     0
 }
 
-fn in_front(widths: &[f64], heights: &[f64], n: usize, padding: f64, xs: &mut [f64], ys: &mut [f64])
+fn in_front(
+    widths: &[f64],
+    heights: &[f64],
+    n: usize,
+    padding: f64,
+    proportion: f64,
+    xs: &mut [f64],
+    ys: &mut [f64],
+)
     requires { ⌜ (n ≤ maxCircles) × (length (now widths) ≡ maxCircles) × (length (now heights) ≡ maxCircles)
-        × (length (now xs) ≡ maxCircles) × (length (now ys) ≡ maxCircles) ⌝ }
-    ensures x { λ _. ⌜ now (xs .exit) ≡ overwritten (packedXs n (now (widths .entry)) (now (heights .entry)) padding) (now (xs .entry)) ⌝ }
-    ensures y { λ _. ⌜ now (ys .exit) ≡ overwritten (packedYs n (now (widths .entry)) (now (heights .entry)) padding) (now (ys .entry)) ⌝ }
+        × (length (now xs) ≡ maxCircles) × (length (now ys) ≡ maxCircles) × T (proportionOk proportion) ⌝ }
+    ensures x { λ _. ⌜ now (xs .exit) ≡ overwritten (packedXs n (now (widths .entry)) (now (heights .entry)) padding proportion) (now (xs .entry)) ⌝ }
+    ensures y { λ _. ⌜ now (ys .exit) ≡ overwritten (packedYs n (now (widths .entry)) (now (heights .entry)) padding proportion) (now (ys .entry)) ⌝ }
 {
     in_grid(
         &widths[0..n],
         &heights[0..n],
         padding,
+        proportion,
         &mut xs[0..n],
         &mut ys[0..n],
     );
 }
 
-fn pack_number(widths: &[f64], heights: &[f64], n: usize, padding: f64) -> u8
+fn pack_number(widths: &[f64], heights: &[f64], n: usize, padding: f64, proportion: f64) -> u8
     requires { ⌜ (length (now widths) ≡ maxCircles) × (length (now heights) ≡ maxCircles) ⌝ }
-    ensures { λ r. ⌜ r ≡ sidesNumber n (now (widths .entry)) (now (heights .entry)) padding ⌝ }
+    ensures { λ r. ⌜ r ≡ sidesNumber n (now (widths .entry)) (now (heights .entry)) padding proportion ⌝ }
 {
     let m = room(n);
     number_of(
-        of_count(n) | of_sides(&widths[0..m]) | of_sides(&heights[0..m]) | of_padding(padding),
+        of_count(n)
+            | of_sides(&widths[0..m])
+            | of_sides(&heights[0..m])
+            | of_padding(padding)
+            | of_proportion(proportion),
     )
 }
 
 // ---- the grid, over lists of one length
 
-fn in_grid(widths: &[f64], heights: &[f64], padding: f64, xs: &mut [f64], ys: &mut [f64])
+fn in_grid(
+    widths: &[f64],
+    heights: &[f64],
+    padding: f64,
+    proportion: f64,
+    xs: &mut [f64],
+    ys: &mut [f64],
+)
     requires { ⌜ (length (now widths) ≤ maxCircles) × (length (now heights) ≡ length (now widths))
-        × (length (now xs) ≡ length (now widths)) × (length (now ys) ≡ length (now widths)) ⌝ }
-    ensures x { λ _. ⌜ now (xs .exit) ≡ packedXs (length (now (widths .entry))) (now (widths .entry)) (now (heights .entry)) padding ⌝ }
-    ensures y { λ _. ⌜ now (ys .exit) ≡ packedYs (length (now (widths .entry))) (now (widths .entry)) (now (heights .entry)) padding ⌝ }
+        × (length (now xs) ≡ length (now widths)) × (length (now ys) ≡ length (now widths)) × T (proportionOk proportion) ⌝ }
+    ensures x { λ _. ⌜ now (xs .exit) ≡ packedXs (length (now (widths .entry))) (now (widths .entry)) (now (heights .entry)) padding proportion ⌝ }
+    ensures y { λ _. ⌜ now (ys .exit) ≡ packedYs (length (now (widths .entry))) (now (widths .entry)) (now (heights .entry)) padding proportion ⌝ }
 {
     let k = widths.len();
     let mut areas = [0.0; MAX_CIRCLES];
@@ -247,6 +278,7 @@ fn in_grid(widths: &[f64], heights: &[f64], padding: f64, xs: &mut [f64], ys: &m
         widths,
         heights,
         padding,
+        proportion,
         xs,
         ys,
         &mut areas[0..k],
@@ -262,6 +294,7 @@ fn on_axes(
     widths: &[f64],
     heights: &[f64],
     padding: f64,
+    proportion: f64,
     xs: &mut [f64],
     ys: &mut [f64],
     areas: &mut [f64],
@@ -273,12 +306,12 @@ fn on_axes(
     requires { ⌜ (length (now widths) ≤ maxCircles) × (length (now heights) ≡ length (now widths))
         × (length (now xs) ≡ length (now widths)) × (length (now ys) ≡ length (now widths))
         × ((length (now areas) ≡ length (now widths)) × (length (now columns) ≡ length (now widths)) × (length (now rows) ≡ length (now widths))
-        × (length (now breadths) ≡ length (now widths)) × (length (now cells) ≡ length (now widths))) ⌝ }
-    ensures x { λ _. ⌜ now (xs .exit) ≡ packedXs (length (now (widths .entry))) (now (widths .entry)) (now (heights .entry)) padding ⌝ }
-    ensures y { λ _. ⌜ now (ys .exit) ≡ packedYs (length (now (widths .entry))) (now (widths .entry)) (now (heights .entry)) padding ⌝ }
+        × (length (now breadths) ≡ length (now widths)) × (length (now cells) ≡ length (now widths))) × T (proportionOk proportion) ⌝ }
+    ensures x { λ _. ⌜ now (xs .exit) ≡ packedXs (length (now (widths .entry))) (now (widths .entry)) (now (heights .entry)) padding proportion ⌝ }
+    ensures y { λ _. ⌜ now (ys .exit) ≡ packedYs (length (now (widths .entry))) (now (widths .entry)) (now (heights .entry)) padding proportion ⌝ }
 {
     areas_of(widths, heights, areas);
-    lines_of(areas, columns, rows);
+    lines_of(areas, proportion, columns, rows);
     axis(widths, columns, padding, xs, breadths, cells);
     axis(heights, rows, padding, ys, breadths, cells);
 }
@@ -295,12 +328,13 @@ fn areas_of(widths: &[f64], heights: &[f64], areas: &mut [f64])
 }
 
 // The column and the row of each box, by its place among the boxes.
-fn lines_of(areas: &[f64], columns: &mut [usize], rows: &mut [usize])
-    requires { ⌜ (length (now areas) ≤ maxCircles) × (length (now columns) ≡ length (now areas)) × (length (now rows) ≡ length (now areas)) ⌝ }
-    ensures { λ _. ⌜ Lined (length (now (columns .entry))) (place (length (now (columns .entry))) (at (now (areas .entry))))
+fn lines_of(areas: &[f64], proportion: f64, columns: &mut [usize], rows: &mut [usize])
+    requires { ⌜ (length (now areas) ≤ maxCircles) × (length (now columns) ≡ length (now areas)) × (length (now rows) ≡ length (now areas))
+        × T (proportionOk proportion) ⌝ }
+    ensures { λ _. ⌜ Lined proportion (length (now (columns .entry))) (place (length (now (columns .entry))) (at (now (areas .entry))))
         (now (columns .exit)) (now (rows .exit)) ⌝ }
 {
-    let count = columns_of(areas.len());
+    let count = columns_of(areas.len(), proportion);
     let mut i: usize = 0;
     while i < areas.len() {
         let p = place(areas, i);
@@ -412,7 +446,30 @@ fn starts_of(breadths: &[f64], cells: &mut [f64])
 
 // ---- columns
 
-fn columns_of(k: usize) -> usize
+// How many columns k boxes have. Only 1.618 has a table.
+fn columns_of(k: usize, proportion: f64) -> usize
+    requires { ⌜ (k ≤ maxCircles) × T (proportionOk proportion) ⌝ }
+    ensures { λ r. ⌜ r ≡ columns k proportion ⌝ }
+{
+    if proportion == GOLDEN {
+        return golden_columns(k);
+    }
+    raised(root_or_nan(k as f64) * root_or_nan(proportion))
+}
+
+// The least whole number that is not below x, found by counting: it is 16 at most.
+fn raised(x: f64) -> usize
+    requires { ⌜ T (within nought (whole 16) x) ⌝ }
+    ensures { λ r. ⌜ r ≡ raised x ⌝ }
+{
+    let mut c: usize = 0;
+    while (c as f64) < x {
+        c += 1;
+    }
+    c
+}
+
+fn golden_columns(k: usize) -> usize
     requires { ⌜ k ≤ maxCircles ⌝ }
     ensures { λ r. ⌜ r ≡ columns k golden ⌝ }
 {
@@ -422,7 +479,7 @@ fn columns_of(k: usize) -> usize
     TABLE[k - 1]
 }
 
-// How many columns 1 to 64 boxes have: root(k) * root(1.618), raised to a whole number.
+// How many columns 1 to 64 boxes have at 1.618: root(k) * root(1.618), raised to a whole number.
 const TABLE: [usize; MAX_CIRCLES] = [
     2,
     2,

@@ -38,11 +38,13 @@ pub record AreDoubles (cs : List Circle) (given : Float) : Type 0 where
   pub radius : (i : ℕ) → i < length cs → T (fits binary64 (circle cs i .radius))
   pub factor : T (fits binary64 given)
 
--- for every accepted call, with no other premise: of the circles as handed in, the regions, the returned record and the circles as returned
+-- for every accepted call, whatever its proportion, with no other premise: of the circles as handed in, the regions, the returned record and the circles as
+-- returned
 abbrev pub OfEveryLayout : (List Circle → List Region → Result → List Circle → Type 0) → Type 0
 OfEveryLayout Promised =
-    (cs : List Circle) (factor : Float) (masks : List ℕ) (areas : List Float) → AreDoubles cs factor → layoutRefusal cs factor masks areas ≡ 0
-    → Promised cs (regions masks areas) (layout cs factor masks areas .result) (layout cs factor masks areas .circles)
+    (cs : List Circle) (factor : Float) (masks : List ℕ) (areas : List Float) (proportion : Float) → AreDoubles cs factor → T (fits binary64 proportion)
+    → layoutRefusal cs factor masks areas proportion ≡ 0
+    → Promised cs (regions masks areas) (layout cs factor masks areas proportion .result) (layout cs factor masks areas proportion .circles)
 
 unfoldable pub Demand3 : Type 0
 Demand3 = OfEveryLayout (Promises bound)

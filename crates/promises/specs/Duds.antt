@@ -4,7 +4,7 @@ use mathlib.Core.Path.{_≡_}
 use mathlib.Core.List.{List, [], _∷_}
 use lib.ListN.{replicate}
 use Rattle.shapes.specs.declared.circle.Circle.{Circle}
-use Rattle.scope.specs.Numbers.{nought}
+use Rattle.scope.specs.Numbers.{nought, golden}
 use Rattle.scope.specs.Limits.{circleCap}
 use Rattle.scope.specs.Refusals.{layoutRefusal}
 use Rattle.scope.specs.Links.{regions}
@@ -13,14 +13,15 @@ use Rattle.scope.specs.Promises.{Promises}
 use Rattle.scope.specs.Samples.{wholeCircle}
 use Rattle.promises.specs.Demand3.{bound}
 
--- Of circles handed in with factor 0 and no region, so that each is a cluster: the call is accepted, and this record and these circles break a promise.
+-- Of circles handed in with factor 0, at 1.618 and with no region, so that each is a cluster: the call is accepted, and this record and these circles break a
+-- promise.
 pub record Broken (handed : List Circle) (result : Result) (returned : List Circle) : Type 0 where
-  pub accepted : layoutRefusal handed nought [] [] ≡ 0
+  pub accepted : layoutRefusal handed nought [] [] golden ≡ 0
   pub broken : ¬ Promises bound handed (regions [] []) result returned
 
 -- what the layout itself answers then
 abbrev pub answered : List Circle → Result
-answered handed = layout handed nought [] [] .result
+answered handed = layout handed nought [] [] golden .result
 
 -- two circles that overlap
 abbrev pub pair : List Circle

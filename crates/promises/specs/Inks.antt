@@ -41,16 +41,17 @@ pub record InksTravel : Type 0 where
   pub whole-circles : (proportion factor : Float) (rs : List Region) → CarriesAll (λ cs. arranged proportion cs factor rs .circles)
   pub whole-result : (proportion factor : Float) (rs : List Region) → Blind (λ cs. arranged proportion cs factor rs .result)
   -- so two accepted layouts of the same circles with other inks differ in the inks alone, and so do two in a container
-  pub layout-as-before : (is js : List ℕ) (cs : List Circle) (factor : Float) (masks : List ℕ) (areas : List Float)
-      → layoutRefusal (inked is cs) factor masks areas ≡ 0 → layoutRefusal (inked js cs) factor masks areas ≡ 0
-      → (layout (inked is cs) factor masks areas .result ≡ layout (inked js cs) factor masks areas .result)
-      × (layout (inked is cs) factor masks areas .circles ≡ inked is (layout (inked js cs) factor masks areas .circles))
+  pub layout-as-before : (is js : List ℕ) (cs : List Circle) (factor : Float) (masks : List ℕ) (areas : List Float) (proportion : Float)
+      → layoutRefusal (inked is cs) factor masks areas proportion ≡ 0 → layoutRefusal (inked js cs) factor masks areas proportion ≡ 0
+      → (layout (inked is cs) factor masks areas proportion .result ≡ layout (inked js cs) factor masks areas proportion .result)
+      × (layout (inked is cs) factor masks areas proportion .circles ≡ inked is (layout (inked js cs) factor masks areas proportion .circles))
   pub container-as-before : (is js : List ℕ) (cs : List Circle) (container : Rectangle)
       → containerRefusal (inked is cs) container ≡ 0 → containerRefusal (inked js cs) container ≡ 0
       → contained (inked is cs) container .circles ≡ inked is (contained (inked js cs) container .circles)
   -- each call that rewrites circles, accepted or refused: the inks are those handed in, in order
-  pub layout-keeps : (cs : List Circle) (factor : Float) (masks : List ℕ) (areas : List Float) → inks (layout cs factor masks areas .circles) ≡ inks cs
+  pub layout-keeps : (cs : List Circle) (factor : Float) (masks : List ℕ) (areas : List Float) (proportion : Float)
+      → inks (layout cs factor masks areas proportion .circles) ≡ inks cs
   pub container-keeps : (cs : List Circle) (container : Rectangle) → inks (contained cs container .circles) ≡ inks cs
-  pub first-layout-keeps : (n : ℕ) (cs : List Circle) (factor : Float) (masks : List ℕ) (areas : List Float)
-      → inks (firstLayout n cs factor masks areas .circles) ≡ inks cs
+  pub first-layout-keeps : (n : ℕ) (cs : List Circle) (factor : Float) (masks : List ℕ) (areas : List Float) (proportion : Float)
+      → inks (firstLayout n cs factor masks areas proportion .circles) ≡ inks cs
   pub first-container-keeps : (n : ℕ) (cs : List Circle) (container : Rectangle) → inks (firstContained n cs container .circles) ≡ inks cs

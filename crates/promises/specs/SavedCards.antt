@@ -7,6 +7,7 @@ use lib.Dec.{eqb}
 use lib.ListN.{length, getD, take}
 use lib.Ieee.{Float}
 use Rattle.shapes.specs.declared.circle.Circle.{Circle}
+use Rattle.scope.specs.Numbers.{golden}
 use Rattle.scope.specs.Refusals.{given, tooShort, writerRefusal}
 use Rattle.scope.specs.Links.{circle}
 use Rattle.scope.specs.Layout.{layout}
@@ -50,4 +51,4 @@ pub record CardsSaved : Type 0 where
   -- "The card is shown again next morning from the saved file"
   pub shown-again : (factor : Float) (cs : List Circle) (masks patterns : List ℕ) → AreTyped (cardOf factor cs masks patterns)
       → valuesRefusal (cardOf factor cs masks patterns) ≡ 0
-      → cardText (fileOf (cardOf factor cs masks patterns)) ≡ printed (layout cs factor masks (cardOf factor cs masks patterns .areas))
+      → cardText (fileOf (cardOf factor cs masks patterns)) ≡ printed (layout cs factor masks (cardOf factor cs masks patterns .areas) golden)

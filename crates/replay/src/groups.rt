@@ -82,7 +82,8 @@ fn clusters_of(
     clustering::find_clusters_from_exclusive_regions(65, masks, areas, tolerance)
 }
 
-fn words(body: &[u8], at: usize, n: usize) -> [u64; 4096]
+// The n words from a place on, and 0 behind them.
+pub(crate) fn words(body: &[u8], at: usize, n: usize) -> [u64; 4096]
     requires { ⌜ n ≤ 4096 ⌝ }
 {
     let mut all = [0u64; 4096];
@@ -103,7 +104,7 @@ fn word(body: &[u8], at: usize, i: usize) -> u64 {
     0
 }
 
-fn floats(body: &[u8], at: usize, n: usize) -> [f64; 4096]
+pub(crate) fn floats(body: &[u8], at: usize, n: usize) -> [f64; 4096]
     requires { ⌜ n ≤ 4096 ⌝ }
 {
     let mut all = [0.0; 4096];
@@ -115,7 +116,8 @@ fn floats(body: &[u8], at: usize, n: usize) -> [f64; 4096]
     all
 }
 
-fn grouped(body: &[u8], at: usize, answer: Clusters) -> bool {
+// The refusal, the count and the numbers, from a place on.
+pub fn grouped(body: &[u8], at: usize, answer: Clusters) -> bool {
     if at > 65536 {
         return false;
     }

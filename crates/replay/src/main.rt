@@ -4,6 +4,7 @@ mod boxes;
 mod cards;
 mod circles;
 mod groups;
+mod layouts;
 mod places;
 mod read;
 
@@ -11,14 +12,14 @@ use libc::STDIN_FILENO;
 use libc::STDOUT_FILENO;
 ghost use Prim.Native.Nat.{_<_};
 
-const KINDS: usize = 10;
+const KINDS: usize = 11;
 
 // More records than any list has.
 const BUDGET: u64 = 100000000;
 
 struct Tally {
-    seen: [u64; 11],
-    agreed: [u64; 11],
+    seen: [u64; 12],
+    agreed: [u64; 12],
 }
 
 // What one record came to: the end, or its kind, plus 100 where it agrees.
@@ -38,6 +39,7 @@ fn main() {
     line(b"packing ", tally.agreed[8], tally.seen[8]);
     line(b"container ", tally.agreed[9], tally.seen[9]);
     line(b"whole cards ", tally.agreed[10], tally.seen[10]);
+    line(b"whole layouts ", tally.agreed[11], tally.seen[11]);
     line(b"malformed ", tally.agreed[0], tally.seen[0]);
 }
 
@@ -51,8 +53,8 @@ fn line(name: &[u8], agreed: u64, seen: u64) {
 
 // A record of no known kind, or one that is cut, counts as one of kind 0.
 fn all() -> Tally {
-    let mut seen = [0u64; 11];
-    let mut agreed = [0u64; 11];
+    let mut seen = [0u64; 12];
+    let mut agreed = [0u64; 12];
     let mut turn: u64 = 0;
     while turn < BUDGET {
         let outcome = next();
@@ -60,7 +62,7 @@ fn all() -> Tally {
             return Tally { seen, agreed };
         }
         let kind = outcome % AGREES;
-        if kind < 11 {
+        if kind < 12 {
             seen[kind] = more(seen[kind]);
             if outcome >= AGREES {
                 agreed[kind] = more(agreed[kind]);
@@ -138,6 +140,7 @@ fn agrees(kind: usize, body: &[u8]) -> bool {
         8 => places::pack_agrees(body),
         9 => places::container_agrees(body),
         10 => cards::card_agrees(body),
+        11 => layouts::layout_agrees(body),
         _ => false,
     }
 }

@@ -71,10 +71,10 @@ pub extern "C" fn rundhefja_intersects(a: Circle, b: Circle) -> Test
 }
 
 #[no_mangle]
-pub extern "C" fn rundhefja_columns(k: usize) -> Count
-    ensures { λ r. ⌜ r ≡ countOf (columnsAnswer k) ⌝ }
+pub extern "C" fn rundhefja_columns(k: usize, proportion: f64) -> Count
+    ensures { λ r. ⌜ r ≡ countOf (columnsAnswer k proportion) ⌝ }
 {
-    let answer = packing::columns(k);
+    let answer = packing::columns(k, proportion);
     match answer {
         ColumnCount::Of(value) => Count { refusal: 0, value },
         ColumnCount::Refused(refusal) => Count { refusal, value: 0 },

@@ -43,10 +43,10 @@ pub extern "C" fn rundhefja_area_clusters(
 }
 
 #[no_mangle]
-pub extern "C" fn rundhefja_pack(rectangles: &[Rectangle], padding: f64) -> Packed
-    ensures { λ r. ⌜ packedBoxes r ≡ skylinePack (now (rectangles .entry)) padding ⌝ }
+pub extern "C" fn rundhefja_pack(rectangles: &[Rectangle], padding: f64, proportion: f64) -> Packed
+    ensures { λ r. ⌜ packedBoxes r ≡ skylinePack (now (rectangles .entry)) padding proportion ⌝ }
 {
-    skyline_pack(rectangles, padding)
+    skyline_pack(rectangles, padding, proportion)
 }
 
 #[no_mangle]
@@ -63,10 +63,11 @@ pub extern "C" fn rundhefja_layout(
     factor: f64,
     masks: &[u64],
     areas: &[f64],
+    proportion: f64,
 ) -> Result
-    ensures { λ r. ⌜ (resultOf r ≡ layout (now (circles .entry)) factor (now (masks .entry)) (now (areas .entry)) .result)
-        × (now (circles .exit) ≡ layout (now (circles .entry)) factor (now (masks .entry)) (now (areas .entry)) .circles)
+    ensures { λ r. ⌜ (resultOf r ≡ layout (now (circles .entry)) factor (now (masks .entry)) (now (areas .entry)) proportion .result)
+        × (now (circles .exit) ≡ layout (now (circles .entry)) factor (now (masks .entry)) (now (areas .entry)) proportion .circles)
         × (r .refusal ≡ 0 → Promises bound (now (circles .entry)) (regions (now (masks .entry)) (now (areas .entry))) (resultOf r) (now (circles .exit))) ⌝ }
 {
-    normalize_layout_with_clusters(circles, factor, masks, areas)
+    normalize_layout_with_clusters(circles, factor, masks, areas, proportion)
 }

@@ -6,7 +6,7 @@ use lib.Dec.{eqb, ltb}
 use lib.ListN.{getD, length, take, drop}
 use lib.Ieee.{Float, binary64, ofBits, toBits}
 use Rattle.shapes.specs.declared.circle.Circle.{Circle}
-use Rattle.scope.specs.Refusals.{Answer, refused, given, answer, frontToBack, tooMany, tooManyRegions, layoutRefusal}
+use Rattle.scope.specs.Refusals.{Answer, refused, given, answer, frontToBack, tooMany, tooManyRegions, cardRefusal}
 use Rattle.shapes.specs.Records.{circleOf}
 
 -- ---- bytes to numbers
@@ -156,7 +156,7 @@ readFile file =
 
 -- "Then values, by the table."
 abbrev pub valuesRefusal : Card → ℕ
-valuesRefusal card = layoutRefusal (card .circles) (card .factor) (card .masks) (card .areas)
+valuesRefusal card = cardRefusal (card .circles) (card .factor) (card .masks) (card .areas)
 
 unfoldable pub valued : Answer Card → Answer Card
 valued (refused k) = refused k

@@ -1,16 +1,17 @@
--- More samples, proved by computation: document 01's "By program" and "Mistakes to catch", each refusal of the card reader, and ends of ranges.
+-- More samples, proved by computation: document 01's "By program" and "Mistakes to catch", each refusal of the card reader, ends of ranges, the writer, and
+-- proportions.
 use Prim.Native.Nat.{ℕ, _/_, _%_, _^_}
 use mathlib.Core.Path.{_≡_, refl}
 use mathlib.Core.Bool.{Bool, true, false}
 use mathlib.Core.List.{List, [], _∷_, _++_, map}
-use lib.IntN.{negsuc}
+use lib.IntN.{pos, negsuc}
 use lib.ListN.{replicate, take}
 use lib.Ieee.{Float, nan, inf, fin, binary64, neg, ofBits, toBits}
 use Rattle.shapes.specs.declared.rectangle.Rectangle.{Rectangle}
-use Rattle.scope.specs.Numbers.{nought, one, half, whole, e-10}
+use Rattle.scope.specs.Numbers.{nought, one, two, half, whole, e-10, golden}
 use Rattle.scope.specs.Runs.{tab, filled}
-use Rattle.scope.specs.Limits.{circleCap, coordinateOk, radiusOk, factorOk, sideOk, paddingOk}
-use Rattle.scope.specs.Refusals.{refused, given, layoutRefusal}
+use Rattle.scope.specs.Limits.{circleCap, coordinateOk, radiusOk, factorOk, sideOk, paddingOk, proportionOk}
+use Rattle.scope.specs.Refusals.{refused, given, cardRefusal}
 use Rattle.shapes.specs.Records.{pointAt, circleOf, rectangleOf}
 use Rattle.scope.specs.Distance.{rootAnswer, distanceAnswer, circleDistanceAnswer, containsPointAnswer}
 use Rattle.scope.specs.Links.{regions}
@@ -18,6 +19,7 @@ use Rattle.scope.specs.Groups.{refusedGrouping, areaGrouping, plainGroup
 use Rattle.scope.specs.Tolerance.{tolerance}
 use Rattle.scope.specs.Packing.{skylinePack, columnsAnswer, rows, noRectangle, refusedPacking}
 use Rattle.scope.specs.Container.{contained}
+use Rattle.scope.specs.Layout.{layout, refusedLayout}
 use Rattle.scope.specs.CardFile.{factorField, circleField, regionField, Card, readField, fieldBody, nextRefusal, readCard}
 use Rattle.scope.specs.Text.{bytes}
 use Rattle.scope.specs.Print.{cardText, float}
@@ -298,12 +300,12 @@ pub record ReaderChecks : Type 0 where
   pub equal-masks : cardText (factorBytes (wholeBits 2) ++ unit ++ unit ++ regionBytes 3 0 ++ regionBytes 3 0) ≡ bytes "refused 5\n"
   pub bad-factor : cardText (factorBytes (wholeBits 2) ++ unit) ≡ bytes "refused 6\n"
   -- "64 circles pass, 65 give 1."
-  pub circles-64 : layoutRefusal (tab 64 (wholeCircle 0 0 1)) nought [] [] ≡ 0
-  pub circles-65 : layoutRefusal (replicate 65 (wholeCircle 0 0 1 1)) nought [] [] ≡ 1
+  pub circles-64 : cardRefusal (tab 64 (wholeCircle 0 0 1)) nought [] [] ≡ 0
+  pub circles-65 : cardRefusal (replicate 65 (wholeCircle 0 0 1 1)) nought [] [] ≡ 1
   -- two circles of one ink, after every other check
   pub same-ink : cardText (factorBytes 0 ++ unit ++ unit) ≡ bytes "refused 14\n"
   pub factor-first : cardText (factorBytes (wholeBits 2) ++ unit ++ unit) ≡ bytes "refused 6\n"
-  pub ink-last : layoutRefusal (tab 63 (wholeCircle 0 0 1) ++ wholeCircle 0 0 1 62 ∷ []) nought [] [] ≡ 14
+  pub ink-last : cardRefusal (tab 63 (wholeCircle 0 0 1) ++ wholeCircle 0 0 1 62 ∷ []) nought [] [] ≡ 14
   pub ink-plain : plainGrouping (wholeCircle 0 0 1 5 ∷ wholeCircle 9 0 1 5 ∷ []) ≡ refusedGrouping 14
   -- a circle field without a number
   pub old-circle : cardText (factorBytes 0 ++ 2 ∷ 24 ∷ 0 ∷ eight 0 ++ eight 0 ++ eight (wholeBits 1)) ≡ bytes "refused 10\n"
@@ -439,7 +441,7 @@ squareBox x y s = rectangleOf (pointAt x y) s s
 
 pub record PackingChecks : Type 0 where
   -- sides 2, 1, 2 and padding 1/2: mistake "sorting equal boxes backwards"
-  pub equal-boxes : skylinePack (box (whole 2) ∷ box one ∷ box (whole 2) ∷ []) half
+  pub equal-boxes : skylinePack (box (whole 2) ∷ box one ∷ box (whole 2) ∷ []) half golden
       ≡ record {
         refusal = 0;
         rectangles =
@@ -449,11 +451,11 @@ pub record PackingChecks : Type 0 where
             ∷ squareBox (fin false 15 (negsuc 1)) (fin false 5 (negsuc 1)) (whole 2)
             ∷ []);
       }
-  pub bad-side : skylinePack (box (neg one) ∷ []) nan ≡ refusedPacking 7
-  pub bad-padding : skylinePack (box one ∷ []) nan ≡ refusedPacking 8
+  pub bad-side : skylinePack (box (neg one) ∷ []) nan nan ≡ refusedPacking 7
+  pub bad-padding : skylinePack (box one ∷ []) nan nan ≡ refusedPacking 8
   -- "No boxes have 0 columns."
-  pub columns-0 : columnsAnswer 0 ≡ given 0
-  pub columns-65 : columnsAnswer 65 ≡ refused 1
+  pub columns-0 : columnsAnswer 0 golden ≡ given 0
+  pub columns-65 : columnsAnswer 65 nan ≡ refused 1
   pub rows-61 : rows 61 10 ≡ 7
   -- the container goes to the origin and the circle to its middle
   pub container : contained (wholeCircle 5 5 1 1 ∷ []) (squareBox (whole 4) (whole 4) (whole 10))
@@ -461,8 +463,7 @@ pub record PackingChecks : Type 0 where
   -- a circle that reaches past stays where step 1 left it
   pub past : contained (wholeCircle 5 5 9 1 ∷ []) (squareBox (whole 4) (whole 4) (whole 10))
       ≡ record { refusal = 0; container = squareBox nought nought (whole 10); circles = wholeCircle 1 1 9 1 ∷ [] }
-  -- after a refusal all comes back as given
-  -- a container's side goes before the ink, and after 14 all comes back as given too
+  -- a container's side goes before the ink, and after 14, as after any number, all comes back as given
   pub same-ink : contained (wholeCircle 5 5 1 1 ∷ wholeCircle 6 5 1 1 ∷ []) (squareBox (whole 4) (whole 4) (whole 10))
       ≡ record { refusal = 14; container = squareBox (whole 4) (whole 4) (whole 10); circles = wholeCircle 5 5 1 1 ∷ wholeCircle 6 5 1 1 ∷ [] }
   pub side-first : contained (wholeCircle 5 5 1 1 ∷ wholeCircle 6 5 1 1 ∷ []) (squareBox (whole 4) (whole 4) (neg one)) .refusal ≡ 7
@@ -484,4 +485,72 @@ packs =
       same-ink = refl;
       side-first = refl;
       bad-container = refl;
+    }
+
+-- ---- document 02, 3/14: the proportion
+
+abbrev pub quarter : Float
+quarter = fin false 1 (negsuc 1)
+
+abbrev pub four : Float
+four = fin false 1 (pos 2)
+
+-- the f64 next above 1
+abbrev pub pastOne : Float
+pastOne = ofBits binary64 0x3ff0_0000_0000_0001
+
+pub record ProportionChecks : Type 0 where
+  -- "from 1/4 to 4": the ends, and the f64 next to each
+  pub ends : passing proportionOk (0x3fd0_0000_0000_0000 ∷ 0x3fcf_ffff_ffff_ffff ∷ 0x4010_0000_0000_0000 ∷ 0x4010_0000_0000_0001 ∷ [])
+      ≡ true ∷ false ∷ true ∷ false ∷ []
+  -- zeros, -1/4, NaN and the infinities
+  pub outside : map proportionOk (nought ∷ neg nought ∷ neg quarter ∷ nan ∷ inf false ∷ inf true ∷ []) ≡ replicate 6 false
+  -- 64 boxes have from 4 columns to 16
+  pub columns-64 : map (columnsAnswer 64) (quarter ∷ half ∷ one ∷ two ∷ four ∷ []) ≡ given 4 ∷ given 6 ∷ given 8 ∷ given 12 ∷ given 16 ∷ []
+  -- the product of the two rounded roots: the root of the product would have 1, 2 and 2
+  pub rounded-twice : columnsAnswer 2 half ≡ given 2
+  pub rounded-2 : columnsAnswer 2 two ≡ given 3
+  pub rounded-8 : columnsAnswer 8 half ≡ given 3
+  -- one box has one column up to 1 and, by rounding, at the next f64
+  pub columns-1 : map (columnsAnswer 1) (quarter ∷ one ∷ pastOne ∷ two ∷ four ∷ []) ≡ given 1 ∷ given 1 ∷ given 1 ∷ given 2 ∷ given 2 ∷ []
+  -- no boxes have 0 columns, and are refused for their proportion all the same
+  pub columns-0 : map (columnsAnswer 0) (quarter ∷ four ∷ nought ∷ nan ∷ []) ≡ given 0 ∷ given 0 ∷ refused 16 ∷ refused 16 ∷ []
+  -- three boxes at 1 stand in two columns, so the third starts a row
+  pub second-row : skylinePack (box (whole 2) ∷ box (whole 2) ∷ box (whole 2) ∷ []) nought one
+      ≡ record {
+        refusal = 0;
+        rectangles =
+            filled circleCap noRectangle
+            (squareBox one one (whole 2) ∷ squareBox (whole 3) one (whole 2) ∷ squareBox one (whole 3) (whole 2) ∷ []);
+      }
+  -- two circles at 1/4 stand one over the other, and at 4 side by side
+  pub tall : layout (wholeCircle 0 0 1 1 ∷ wholeCircle 10 0 1 2 ∷ []) nought [] [] quarter .circles
+      ≡ circleOf nought (neg one) one 1 ∷ circleOf nought one one 2 ∷ []
+  pub wide : layout (wholeCircle 0 0 1 1 ∷ wholeCircle 10 0 1 2 ∷ []) nought [] [] four .circles
+      ≡ circleOf (neg one) nought one 1 ∷ circleOf one nought one 2 ∷ []
+  -- "checked after 15": after every other cause, and the circles come back as given
+  pub alone : layout (wholeCircle 0 0 1 1 ∷ []) nought [] [] nan ≡ refusedLayout 16 (wholeCircle 0 0 1 1 ∷ [])
+  pub ink-first : layout (wholeCircle 0 0 1 1 ∷ wholeCircle 10 0 1 1 ∷ []) nought [] [] nan .result .refusal ≡ 14
+  pub no-box : skylinePack [] nought nan ≡ refusedPacking 16
+  pub padding-first : skylinePack [] nan nan ≡ refusedPacking 8
+
+pub proportions : ProportionChecks
+unfolding computing box
+proportions =
+    record {
+      ends = refl;
+      outside = refl;
+      columns-64 = refl;
+      rounded-twice = refl;
+      rounded-2 = refl;
+      rounded-8 = refl;
+      columns-1 = refl;
+      columns-0 = refl;
+      second-row = refl;
+      tall = refl;
+      wide = refl;
+      alone = refl;
+      ink-first = refl;
+      no-box = refl;
+      padding-first = refl;
     }

@@ -4,7 +4,7 @@ use mathlib.Core.List.{List, []}
 use lib.ListN.{length}
 use lib.Ieee.{Float}
 use Rattle.shapes.specs.declared.circle.Circle.{Circle}
-use Rattle.scope.specs.Numbers.{nought, golden}
+use Rattle.scope.specs.Numbers.{nought}
 use Rattle.scope.specs.Runs.{filled}
 use Rattle.scope.specs.Limits.{circleCap}
 use Rattle.scope.specs.Refusals.{layoutRefusal}
@@ -50,7 +50,7 @@ unfoldable pub ifAccepted : ℕ → List Circle → Layout → Layout
 ifAccepted zero cs l = l
 ifAccepted (suc k) cs l = refusedLayout (suc k) cs
 
-unfoldable pub layout : List Circle → Float → List ℕ → List Float → Layout
-layout cs factor masks areas =
-    let l = arranged golden cs factor (regions masks areas) in
-    ifAccepted (layoutRefusal cs factor masks areas) cs l
+unfoldable pub layout : List Circle → Float → List ℕ → List Float → Float → Layout
+layout cs factor masks areas proportion =
+    let l = arranged proportion cs factor (regions masks areas) in
+    ifAccepted (layoutRefusal cs factor masks areas proportion) cs l

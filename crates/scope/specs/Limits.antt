@@ -1,7 +1,7 @@
--- Document 01, "Records": how much a call takes, and the ranges of its numbers. Ends count as inside, and -0 counts as 0.
+-- Document 01, "Records", and document 02: how much a call takes, and the ranges of its numbers. Ends count as inside, and -0 counts as 0.
 use Prim.Native.Nat.{ℕ}
 use mathlib.Core.Bool.{Bool, false, _&&_}
-use lib.IntN.{pos}
+use lib.IntN.{pos, negsuc}
 use lib.Ieee.{Float, fin, neg}
 use Rattle.scope.specs.Numbers.{_≤ᶠ_, nought, one}
 use Rattle.shapes.specs.Limits.{smallestRadius, largestRadius}
@@ -41,3 +41,7 @@ sideOk x = within nought (fin false 1 (pos 23)) x
 -- "packing padding 0 to 2^26"
 unfoldable pub paddingOk : Float → Bool
 paddingOk x = within nought (fin false 1 (pos 26)) x
+
+-- document 02, 3/14: "a proportion given with the call, from 1/4 to 4"
+unfoldable pub proportionOk : Float → Bool
+proportionOk x = within (fin false 1 (negsuc 1)) (fin false 1 (pos 2)) x

@@ -1,4 +1,4 @@
--- Document 01, "Packing and centring": the grid of packing.rs. Box i of k has the sides `width i` and `height i`.
+-- Document 01, "Packing and centring": the grid of packing.rs, with document 02's proportion for 1.618. Box i of k has the sides `width i` and `height i`.
 use Prim.Native.Nat.{ℕ, zero, suc, _+_, _-_, _/_, _%_}
 use mathlib.Core.Bool.{Bool, _&&_, _||_}
 use mathlib.Core.List.{List, []}
@@ -9,7 +9,7 @@ use Rattle.rounding.specs.Root.{root}
 use Rattle.rounding.specs.Extremes.{maximum}
 use Rattle.shapes.specs.declared.point.Point.{Point}
 use Rattle.shapes.specs.declared.rectangle.Rectangle.{Rectangle}
-use Rattle.scope.specs.Numbers.{_+ᶠ_, _-ᶠ_, _*ᶠ_, _/ᶠ_, _<ᶠ_, nought, two, golden, whole, raised}
+use Rattle.scope.specs.Numbers.{_+ᶠ_, _-ᶠ_, _*ᶠ_, _/ᶠ_, _<ᶠ_, nought, two, whole, raised}
 use Rattle.scope.specs.Runs.{tab, gather, many, filled}
 use Rattle.scope.specs.Limits.{circleCap}
 use Rattle.scope.specs.Refusals.{Answer, answer, columnsRefusal, packRefusal}
@@ -17,7 +17,8 @@ use Rattle.shapes.specs.Records.{pointAt, rectangleOf}
 
 -- ---- the grid
 
--- "columns = the rounded product root(k) times root(1.618), raised to a whole number"; the proportion stands for 1.618. No boxes have 0 columns.
+-- "columns = the rounded product root(k) times root(1.618), raised to a whole number"; document 02, 3/14: "The constant 1.618 becomes a proportion given with
+-- the call". No boxes have 0 columns.
 unfoldable pub columns : ℕ → Float → ℕ
 columns k proportion = raised (root binary64 (whole k) *ᶠ root binary64 proportion)
 
@@ -25,8 +26,8 @@ columns k proportion = raised (root binary64 (whole k) *ᶠ root binary64 propor
 unfoldable pub rows : ℕ → ℕ → ℕ
 rows k cols = (k + (cols - 1)) / cols
 
-unfoldable pub columnsAnswer : ℕ → Answer ℕ
-columnsAnswer k = answer (columnsRefusal k) (columns k golden)
+unfoldable pub columnsAnswer : ℕ → Float → Answer ℕ
+columnsAnswer k proportion = answer (columnsRefusal k proportion) (columns k proportion)
 
 -- ---- "Boxes go by falling area, equal ones in index order."
 
@@ -111,7 +112,7 @@ unfoldable pub packing : ℕ → List Rectangle → Packing
 packing zero rects = acceptedPacking rects
 packing (suc k) rects = refusedPacking (suc k)
 
-unfoldable pub skylinePack : List Rectangle → Float → Packing
-skylinePack rects padding =
-    let result = packed golden rects padding in
-    packing (packRefusal rects padding) result
+unfoldable pub skylinePack : List Rectangle → Float → Float → Packing
+skylinePack rects padding proportion =
+    let result = packed proportion rects padding in
+    packing (packRefusal rects padding proportion) result

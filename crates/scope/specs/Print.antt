@@ -6,7 +6,7 @@ use lib.Dec.{ltb}
 use lib.ListN.{getD, length}
 use lib.Ieee.{Float, eq}
 use Rattle.shapes.specs.declared.circle.Circle.{Circle}
-use Rattle.scope.specs.Numbers.{nought}
+use Rattle.scope.specs.Numbers.{nought, golden}
 use Rattle.scope.specs.Runs.{tab, least, inTurn}
 use Rattle.scope.specs.Limits.{inputCap}
 use Rattle.scope.specs.Refusals.{Answer, refused, given}
@@ -58,7 +58,7 @@ refusedText k = bytes "refused " ++ decimal k ++ bytes "\n"
 
 unfoldable pub answerText : Answer Card → List ℕ
 answerText (refused k) = refusedText k
-answerText (given card) = printed (layout (card .circles) (card .factor) (card .masks) (card .areas))
+answerText (given card) = printed (layout (card .circles) (card .factor) (card .masks) (card .areas) golden)
 
 -- "Program `card` reads a file of at most 65,536 bytes on standard input. Longer input prints `refused 2`"
 unfoldable pub cardText : List ℕ → List ℕ

@@ -1,7 +1,7 @@
 -- Document 01, the table of causes in "Records", and document 02, which appends to it: which number comes back. Each call's checks stand below the causes.
 use Prim.Native.Nat.{ℕ, zero, suc}
 use mathlib.Core.Bool.{Bool, true, false, not, _&&_, _||_, cond}
-use mathlib.Core.List.{List, [], _∷_, map}
+use mathlib.Core.List.{List, [], _∷_, _++_, map}
 use lib.Dec.{eqb, ltb}
 use lib.ListN.{length}
 use lib.Ieee.{Float}
@@ -9,11 +9,12 @@ use Rattle.shapes.specs.declared.point.Point.{Point}
 use Rattle.shapes.specs.declared.circle.Circle.{Circle}
 use Rattle.shapes.specs.declared.rectangle.Rectangle.{Rectangle}
 use Rattle.scope.specs.Runs.{any}
-use Rattle.scope.specs.Limits.{circleCap, regionCap, coordinateOk, radiusOk, factorOk, sideOk, paddingOk}
+use Rattle.scope.specs.Limits.{circleCap, regionCap, coordinateOk, radiusOk, factorOk, sideOk, paddingOk, proportionOk}
 
--- ---- "The lowest wins, but 13 goes before 2." Document 02, 1/14: 14 is "looked for after every check of document 01"; 2/14: 15 is "after all value checks".
+-- ---- "The lowest wins, but 13 goes before 2." Document 02, 1/14: 14 is "looked for after every check of document 01"; 2/14: 15 is "after all value checks";
+-- 3/14: 16 is "checked after 15".
 unfoldable pub causes : List ℕ
-causes = 1 ∷ 13 ∷ 2 ∷ 3 ∷ 4 ∷ 5 ∷ 6 ∷ 7 ∷ 8 ∷ 9 ∷ 10 ∷ 11 ∷ 12 ∷ 14 ∷ 15 ∷ []
+causes = 1 ∷ 13 ∷ 2 ∷ 3 ∷ 4 ∷ 5 ∷ 6 ∷ 7 ∷ 8 ∷ 9 ∷ 10 ∷ 11 ∷ 12 ∷ 14 ∷ 15 ∷ 16 ∷ []
 
 -- What a call checks: numbers, and whether the cause of each holds.
 abbrev pub Checks : Type 0
@@ -106,6 +107,10 @@ sameInk cs = repeated (inks cs)
 unfoldable pub tooShort : ℕ → ℕ → Bool
 tooShort room size = ltb room size
 
+-- 16, "A proportion not finite or out of range"
+unfoldable pub badProportion : Float → Bool
+badProportion x = not (proportionOk x)
+
 -- ---- what each call checks; 9, 10 and 11 stand with the card file, 12 with the root. "Duplicate ink numbers give 14 wherever a call takes a list of circles"
 
 -- the distance of two points
@@ -130,12 +135,13 @@ regionsRefusal n masks areas =
     refusal ((1, tooMany n) ∷ (13, unequal masks areas) ∷ (2, tooManyRegions (length masks)) ∷ (5, not (rising masks)) ∷ [])
 
 -- the column answer
-unfoldable pub columnsRefusal : ℕ → ℕ
-columnsRefusal k = refusal ((1, tooMany k) ∷ [])
+unfoldable pub columnsRefusal : ℕ → Float → ℕ
+columnsRefusal k proportion = refusal ((1, tooMany k) ∷ (16, badProportion proportion) ∷ [])
 
 -- packing: "does not look at a rectangle's centre"
-unfoldable pub packRefusal : List Rectangle → Float → ℕ
-packRefusal rects padding = refusal ((1, tooMany (length rects)) ∷ (7, any badSide rects) ∷ (8, badPadding padding) ∷ [])
+unfoldable pub packRefusal : List Rectangle → Float → Float → ℕ
+packRefusal rects padding proportion =
+    refusal ((1, tooMany (length rects)) ∷ (7, any badSide rects) ∷ (8, badPadding padding) ∷ (16, badProportion proportion) ∷ [])
 
 -- `normalize_layout_with_container`
 unfoldable pub containerRefusal : List Circle → Rectangle → ℕ
@@ -144,19 +150,22 @@ containerRefusal cs container =
     ((1, tooMany (length cs)) ∷ (3, any badCentre cs || badPoint (container .center)) ∷ (4, any badRadius cs) ∷ (7, badSide container)
     ∷ (14, sameInk cs) ∷ [])
 
--- the whole layout, `normalize_layout_with_clusters`
-unfoldable pub layoutRefusal : List Circle → Float → List ℕ → List Float → ℕ
-layoutRefusal cs factor masks areas =
-    refusal
-    ((1, tooMany (length cs)) ∷ (13, unequal masks areas) ∷ (2, tooManyRegions (length masks)) ∷ (3, any badCentre cs) ∷ (4, any badRadius cs)
-    ∷ (5, not (rising masks)) ∷ (6, badFactor factor) ∷ (14, sameInk cs) ∷ [])
+-- the values of a card: what the reader takes, and the first thing that the layout and the writer look at
+abbrev pub cardChecks : List Circle → Float → List ℕ → List Float → Checks
+cardChecks cs factor masks areas =
+    (1, tooMany (length cs)) ∷ (13, unequal masks areas) ∷ (2, tooManyRegions (length masks)) ∷ (3, any badCentre cs) ∷ (4, any badRadius cs)
+    ∷ (5, not (rising masks)) ∷ (6, badFactor factor) ∷ (14, sameInk cs) ∷ []
 
--- the card writer, with an output of `room` bytes for a file of `size`: the layout's checks, then the output's
+unfoldable pub cardRefusal : List Circle → Float → List ℕ → List Float → ℕ
+cardRefusal cs factor masks areas = refusal (cardChecks cs factor masks areas)
+
+-- the whole layout, `normalize_layout_with_clusters`: a card's values, then the proportion
+unfoldable pub layoutRefusal : List Circle → Float → List ℕ → List Float → Float → ℕ
+layoutRefusal cs factor masks areas proportion = refusal (cardChecks cs factor masks areas ++ (16, badProportion proportion) ∷ [])
+
+-- the card writer, with an output of `room` bytes for a file of `size`: a card's values, then the output
 unfoldable pub writerRefusal : List Circle → Float → List ℕ → List Float → ℕ → ℕ → ℕ
-writerRefusal cs factor masks areas room size =
-    refusal
-    ((1, tooMany (length cs)) ∷ (13, unequal masks areas) ∷ (2, tooManyRegions (length masks)) ∷ (3, any badCentre cs) ∷ (4, any badRadius cs)
-    ∷ (5, not (rising masks)) ∷ (6, badFactor factor) ∷ (14, sameInk cs) ∷ (15, tooShort room size) ∷ [])
+writerRefusal cs factor masks areas room size = refusal (cardChecks cs factor masks areas ++ (15, tooShort room size) ∷ [])
 
 -- a text written into a lent list
 unfoldable pub textRefusal : ℕ → ℕ → ℕ

@@ -10,7 +10,7 @@ use lib.Dec.{T, eqb}
 use lib.Ieee.{Float, inf, fin, binary64, fits, toBits}
 use Rattle.shapes.specs.declared.circle.Circle.{Circle}
 use Rattle.rounding.specs.Root.{root}
-use Rattle.scope.specs.Numbers.{nought, one, whole, e-10}
+use Rattle.scope.specs.Numbers.{nought, one, whole, e-10, golden}
 use Rattle.scope.specs.Runs.{filled}
 use Rattle.scope.specs.Limits.{circleCap}
 use Rattle.scope.specs.Refusals.{given, pairRefusal}
@@ -80,12 +80,12 @@ pub record SampleCards : Type 0 where
   -- with none but such regions as (g)'s and (h)'s, each circle is linked to itself alone
   pub g-h-alone : (tol : Float) (rs : List Region) → Each (EqualOrInfinite tol) rs → (i j : ℕ) → linkedByRegions tol rs i j ≡ eqb i j
   -- columns for 1, 3, 4, 6, 64 boxes: 2, 3, 3, 4, 11
-  pub i : map columnsAnswer (1 ∷ 3 ∷ 4 ∷ 6 ∷ 64 ∷ []) ≡ given 2 ∷ given 3 ∷ given 3 ∷ given 4 ∷ given 11 ∷ []
+  pub i : map (λ n. columnsAnswer n golden) (1 ∷ 3 ∷ 4 ∷ 6 ∷ 64 ∷ []) ≡ given 2 ∷ given 3 ∷ given 3 ∷ given 4 ∷ given 11 ∷ []
   -- the file above, from its bytes to the bytes printed
   pub j : cardText fileJ
       ≡ bytes "circles 2 clusters 2 moved 0000000000000000 padding 0000000000000000\n"
       ++ bytes "0 0 bff0000000000000 0000000000000000 3ff0000000000000 1\n"
       ++ bytes "1 1 3ff0000000000000 0000000000000000 3ff0000000000000 2\n"
   -- (0,0,2) of ink 1, (0,3,2) of ink 2, masks 1, 2, 3 of area 1: centres (-1.5,0), (1.5,0)
-  pub k : layout (wholeCircle 0 0 2 1 ∷ wholeCircle 0 3 2 2 ∷ []) nought (1 ∷ 2 ∷ 3 ∷ []) (one ∷ one ∷ one ∷ []) .circles
+  pub k : layout (wholeCircle 0 0 2 1 ∷ wholeCircle 0 3 2 2 ∷ []) nought (1 ∷ 2 ∷ 3 ∷ []) (one ∷ one ∷ one ∷ []) golden .circles
       ≡ circleOf (fin true 3 (negsuc 0)) nought (whole 2) 1 ∷ circleOf (fin false 3 (negsuc 0)) nought (whole 2) 2 ∷ []

@@ -29,16 +29,17 @@ abbrev pub firstGrouping : ℕ → List Circle → Grouping
 firstGrouping n cs = countedGrouping n (take n cs)
 
 -- ---- `skyline_pack`: the first n boxes of an array packed
-unfoldable pub firstPacking : ℕ → List Rectangle → Float → Packing
-firstPacking n rects padding = unlessMany n (refusedPacking 1) (skylinePack (take n rects) padding)
+unfoldable pub firstPacking : ℕ → List Rectangle → Float → Float → Packing
+firstPacking n rects padding proportion = unlessMany n (refusedPacking 1) (skylinePack (take n rects) padding proportion)
 
 -- ---- the whole layout of the first n circles of an array, and the circles past them as they were
 
 abbrev pub withOthers : ℕ → List Circle → Layout → Layout
 withOthers n cs l = record { result = l .result; circles = l .circles ++ drop n cs }
 
-unfoldable pub firstLayout : ℕ → List Circle → Float → List ℕ → List Float → Layout
-firstLayout n cs factor masks areas = unlessMany n (refusedLayout 1 cs) (withOthers n cs (layout (take n cs) factor masks areas))
+unfoldable pub firstLayout : ℕ → List Circle → Float → List ℕ → List Float → Float → Layout
+firstLayout n cs factor masks areas proportion =
+    unlessMany n (refusedLayout 1 cs) (withOthers n cs (layout (take n cs) factor masks areas proportion))
 
 -- ---- `normalize_layout_with_container`, likewise
 

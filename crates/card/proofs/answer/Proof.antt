@@ -1,6 +1,6 @@
 -- The text has room in its buffer.
 use borrow.Author.Needs.{needs}
-use Rattle.card_file.proofs.Putting.{text-fits}
+use Rattle.card_output.proofs.Putting.{text-fits}
 use Rattle.card.proofs.answer.Statement.{statement}
 use Rattle.card.proofs.answer.Tie as tie
 

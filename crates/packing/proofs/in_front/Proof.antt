@@ -45,7 +45,9 @@ part-in-grid-end-4 : tie.Need-part-in-grid-end-4
 part-in-grid-end-4 c = search needs
 
 in-grid-requires : tie.Need-in-grid-requires
-in-grid-requires c κs = search needs
+in-grid-requires c κs =
+    let S = c .before .before .before .before .before .before .before .before in
+    (search needs, search needs, search needs, search needs, S .pre .5)
 
 same-length : tie.Need-same-length
 same-length c = search needs
@@ -60,8 +62,8 @@ returns c =
     let g = c .before .before .before .before .in-grid .ensures in
     let w : a .n ≤ length (a .widths .now) = omega arith in
     let h : a .n ≤ length (a .heights .now) = omega arith in (
-      rw sub-zero (front-xs (a .n) (a .widths .now) (a .heights .now) w h (a .padding) (a .xs .now) _ (rw sub-zero at (g .0))),
-      rw sub-zero (front-ys (a .n) (a .widths .now) (a .heights .now) w h (a .padding) (a .ys .now) _ (rw sub-zero at (g .1))),
+      rw sub-zero (front-xs (a .n) (a .widths .now) (a .heights .now) w h (a .padding) (a .proportion) (a .xs .now) _ (rw sub-zero at (g .0))),
+      rw sub-zero (front-ys (a .n) (a .widths .now) (a .heights .now) w h (a .padding) (a .proportion) (a .ys .now) _ (rw sub-zero at (g .1))),
     )
 
 pub in-front-spec : {M : Type 1} → statement M

@@ -7,25 +7,27 @@ use Rattle.scope.specs.Packing.{place}
 use Rattle.intake.specs.Columns.{at}
 use Rattle.packing.specs.Lists.{At}
 use Rattle.packing.proofs.Arrays.{at-none, at-more}
-use Rattle.packing.proofs.ColumnTable.{columns-small}
+use Rattle.promises.proofs.packing.Proportions.{grid-fits-64}
+use Rattle.packing.proofs.ColumnTable.{proportion-good}
 use Rattle.packing.proofs.lines_of.Statement.{statement}
 use Rattle.packing.proofs.lines_of.Tie as tie
 
 abbrev Inv-loop : tie.InvT-loop
-Inv-loop areas columns₀ rows₀ count i₀ columns rows i = (i ≤ length areas) × (length columns ≡ length areas) × (length rows ≡ length areas) × (At i columns 0 (λ b. place (length areas) (at areas) b % count) × At i rows 0 (λ b. place (length areas) (at areas) b / count))
+Inv-loop areas proportion columns₀ rows₀ count i₀ columns rows i = (i ≤ length areas) × (length columns ≡ length areas) × (length rows ≡ length areas) × (At i columns 0 (λ b. place (length areas) (at areas) b % count) × At i rows 0 (λ b. place (length areas) (at areas) b / count))
 
 abbrev μ-loop : tie.MeasureT-loop
-μ-loop areas columns₀ rows₀ count i₀ columns rows i = length areas - i
+μ-loop areas proportion columns₀ rows₀ count i₀ columns rows i = length areas - i
 
 -- a box has at least one column
 some-columns : (c : tie.After-place Inv-loop μ-loop) → 0 < c .before .before .before .columns-of .result
 some-columns c =
     let s = c .before .before .before in
     let a = s .before .before .before .before in
-    omega (arith, columns-small (length (a .args .areas .now)) (omega arith) (a .pre .0), s .columns-of .ensures)
+    let p = proportion-good (a .args .proportion) (a .good .1 .0 .1) (a .pre .3) in
+    omega (arith, grid-fits-64 (length (a .args .areas .now)) (omega arith) (a .pre .0) (a .args .proportion) p .some-column, s .columns-of .ensures)
 
 columns-of-requires : tie.Need-columns-of-requires Inv-loop μ-loop
-columns-of-requires c κs = c .before .before .before .pre .0
+columns-of-requires c κs = let p = c .before .before .before .pre in (p .0, p .3)
 
 loop-holds : tie.Need-loop-holds Inv-loop μ-loop
 loop-holds c = let p = c .before .before .before .before .pre in (omega arith, p .1, p .2, (at-none {A = ℕ} 0 _ _, at-none {A = ℕ} 0 _ _))

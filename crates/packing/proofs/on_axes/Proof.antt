@@ -15,12 +15,12 @@ lines-of-requires c κs = search needs
 axis-requires : tie.Need-axis-requires
 axis-requires c κs =
     let p = c .before .before .before .before .before .before .before .before .before .before .before .before .before .before .before .before .before .before .before .before .before .before .before .before .before .pre in
-    (search needs, search needs, search needs, search needs, λ i h. column-inside _ _ _ _ (rw (p .4 .1) at (c .before .before .before .before .before .before .before .before .lines-of .ensures)) i h)
+    (search needs, search needs, search needs, search needs, λ i h. column-inside _ _ _ _ _ (rw (p .4 .1) at (c .before .before .before .before .before .before .before .before .lines-of .ensures)) i h)
 
 axis-requires-2 : tie.Need-axis-requires-2
 axis-requires-2 c κs =
     let p = c .before .before .before .before .before .before .before .before .before .before .before .before .before .before .before .before .before .before .before .before .before .before .before .before .before .before .before .before .before .before .before .before .before .before .before .before .pre in
-    (omega (arith, p .1, p .4 .2, c .before .before .before .before .before .before .before .before .before .before .before .before .before .before .before .before .before .before .before .lines-of .kept), search needs, omega (arith, p .1, p .4 .3, c .before .before .before .before .before .before .before .before .before .before .axis .kept), omega (arith, p .1, p .4 .4, c .before .before .before .before .before .before .before .before .before .before .axis .kept), rw (p .1) (λ i h. row-inside _ _ _ _ (rw (p .4 .1) at (c .before .before .before .before .before .before .before .before .before .before .before .before .before .before .before .before .before .before .before .lines-of .ensures)) i h))
+    (omega (arith, p .1, p .4 .2, c .before .before .before .before .before .before .before .before .before .before .before .before .before .before .before .before .before .before .before .lines-of .kept), search needs, omega (arith, p .1, p .4 .3, c .before .before .before .before .before .before .before .before .before .before .axis .kept), omega (arith, p .1, p .4 .4, c .before .before .before .before .before .before .before .before .before .before .axis .kept), rw (p .1) (λ i h. row-inside _ _ _ _ _ (rw (p .4 .1) at (c .before .before .before .before .before .before .before .before .before .before .before .before .before .before .before .before .before .before .before .lines-of .ensures)) i h))
 
 same-length : tie.Need-same-length
 same-length c = search needs
@@ -52,8 +52,8 @@ returns c =
     let lined = rw (p .4 .1) at (c .before .before .before .before .before .before .before .before .before .before .before .before .before .before .before .before .before .before .before .before .before .before .before .before .before .before .lines-of .ensures) in
     let x = c .before .before .before .before .before .before .before .before .before .before .before .before .before .before .before .before .before in
     let y = c .before .before .before .before .before .before in (
-      found-xs (length ws) ws hs _ _ (c .before .before .before .before .before .before .before .before .before .before .before .before .before .before .before .before .before .before .before .before .before .before .before .before .before .before .before .before .before .before .before .before .areas-of .ensures) _ _ lined _ (omega (arith, p .2, x .axis .kept)) (x .axis .ensures),
-      found-ys (length ws) ws hs _ _ (c .before .before .before .before .before .before .before .before .before .before .before .before .before .before .before .before .before .before .before .before .before .before .before .before .before .before .before .before .before .before .before .before .areas-of .ensures) _ _ lined _ (omega (arith, p .3, y .axis2 .kept)) (rw (p .1) at (y .axis2 .ensures)),
+      found-xs (length ws) ws hs _ _ _ (c .before .before .before .before .before .before .before .before .before .before .before .before .before .before .before .before .before .before .before .before .before .before .before .before .before .before .before .before .before .before .before .before .areas-of .ensures) _ _ lined _ (omega (arith, p .2, x .axis .kept)) (x .axis .ensures),
+      found-ys (length ws) ws hs _ _ _ (c .before .before .before .before .before .before .before .before .before .before .before .before .before .before .before .before .before .before .before .before .before .before .before .before .before .before .before .before .before .before .before .before .areas-of .ensures) _ _ lined _ (omega (arith, p .3, y .axis2 .kept)) (rw (p .1) at (y .axis2 .ensures)),
     )
 
 pub on-axes-spec : {M : Type 1} → statement M

@@ -2,7 +2,7 @@
 use mathlib.Core.Path.{sym, _∙_}
 use borrow.Author.Needs.{needs}
 use borrow.Author.Tests.{ne-eqb}
-use Rattle.packing.proofs.PackedBoxes.{accepted-few}
+use Rattle.packing.proofs.PackedBoxes.{accepted-few, accepted-proportion}
 use Rattle.packing.proofs.pack_lists.Statement.{statement}
 use Rattle.packing.proofs.pack_lists.Tie as tie
 
@@ -14,9 +14,9 @@ returns c = let none = ne-eqb _ _ (c .if1 .taken) in (c .before .pack-number .en
 
 in-front-requires : tie.Need-in-front-requires
 in-front-requires c κs =
-    let S = c .before .before .before .before .before .before .before .before in
     let s = c .before .before .before in
-    (accepted-few _ _ _ _ (sym (s .pack-number .ensures) ∙ c .before .before .if1 .left), S .pre .0, S .pre .1, search needs, search needs)
+    let none = sym (s .pack-number .ensures) ∙ c .before .before .if1 .left in
+    (accepted-few _ _ _ _ _ none, search needs, search needs, search needs, search needs, accepted-proportion _ _ _ _ _ none)
 
 same-length : tie.Need-same-length
 same-length c = search needs

@@ -41,18 +41,23 @@ of-sides-requires-2 c κs = search needs
 of-padding-requires : tie.Need-of-padding-requires
 of-padding-requires c κs = search needs
 
+of-proportion-requires : tie.Need-of-proportion-requires
+of-proportion-requires c κs = search needs
+
 number-of-requires : tie.Need-number-of-requires
 number-of-requires c κs = search needs
 
 returns : tie.Need-returns
 returns c =
-    let S = c .before .before .before .before .before .before .before .before .before .before in
+    let d = c .before in
+    let S = d .before .before .before .before .before .before .before .before .before .before in
     let a = S .args in
-    let all =
-    joined _ _ ((1, _) ∷ (7, _) ∷ (7, _) ∷ []) ((8, _) ∷ [])
-    (joined _ _ ((1, _) ∷ (7, _) ∷ []) ((7, _) ∷ []) (joined _ _ ((1, _) ∷ []) ((7, _) ∷ []) (c .before .before .before .before .before .before .of-count .ensures) (c .before .before .before .before .of-sides .ensures)) (c .before .before .of-sides2 .ensures))
-    (c .before .of-padding .ensures) in
-    c .number-of .ensures ∙ number-says _ _ all ∙ rw (c .before .before .before .before .before .before .before .room .ensures, sub-zero) (sides-number (a .n) (a .widths .now) (a .heights .now) (a .padding) (S .pre .0) (S .pre .1))
+    let counted = d .before .before .before .before .before .before .of-count .ensures in
+    let sides = joined _ _ ((1, _) ∷ (7, _) ∷ []) ((7, _) ∷ []) (joined _ _ ((1, _) ∷ []) ((7, _) ∷ []) counted (d .before .before .before .before .of-sides .ensures)) (d .before .before .of-sides2 .ensures) in
+    let padded = joined _ _ ((1, _) ∷ (7, _) ∷ (7, _) ∷ []) ((8, _) ∷ []) sides (d .before .of-padding .ensures) in
+    let all = joined _ _ ((1, _) ∷ (7, _) ∷ (7, _) ∷ (8, _) ∷ []) ((16, _) ∷ []) padded (d .of-proportion .ensures) in
+    c .number-of .ensures ∙ number-says _ _ all
+    ∙ rw (d .before .before .before .before .before .before .before .room .ensures, sub-zero) (sides-number (a .n) (a .widths .now) (a .heights .now) (a .padding) (a .proportion) (S .pre .0) (S .pre .1))
 
 pub pack-number-spec : {M : Type 1} → statement M
 pack-number-spec =
@@ -69,5 +74,6 @@ pack-number-spec =
     part-of-sides-end-2
     of-sides-requires-2
     of-padding-requires
+    of-proportion-requires
     number-of-requires
     returns)

@@ -25,7 +25,7 @@ returns c =
     let S = c .before .before .before .before .before .before .before .before .before in
     let sides = c .before .before .before .before .before .sides-of .ensures in
     let m = c .before .before .before .before .before .before .before .before .room .ensures in
-    c .packed-at .ensures ∙ first-by-sides _ _ _ _ _ (S .good .0 .1 .0 .1) (rw m at (sides .0)) (rw m at (sides .1))
+    c .packed-at .ensures ∙ first-by-sides _ _ _ _ _ _ (S .good .0 .1 .0 .1) (rw m at (sides .0)) (rw m at (sides .1))
 
 pub skyline-pack-by-value-spec : {M : Type 1} → statement M
 skyline-pack-by-value-spec =

@@ -9,20 +9,25 @@ use lib.Dec.{T, leb, ltb, leb→le, ltb→lt, lit≤}
 use lib.IntN.{pos, negsuc}
 use lib.ListN.{replicate, length-replicate}
 use lib.Ieee.{Float, fin, binary64, low, mul, unlike, fits}
+use Rattle.algebra.specs.Integer.{nat}
 use Rattle.algebra.proofs.Table.{every, at}
-use Rattle.rounding.specs.Value.{mag, negative, Fin}
+use Rattle.rounding.specs.Value.{mag, negative, val, Fin}
 use Rattle.rounding.specs.Scale.{pow2}
 use Rattle.rounding.specs.Root.{root}
-use Rattle.rounding.proofs.Value.{Held, held, fin-finite}
+use Rattle.rounding.proofs.Value.{Held, held, fin-finite, val-mag}
 use Rattle.rounding.proofs.Rounded.{RoundOf}
 use Rattle.rounding.proofs.Multiply.{mul-is}
+use Rattle.rounding.proofs.Order.{le-is}
 use Rattle.rounding.proofs.root.Operation.{root-finite, root-nearest}
 use Rattle.rounding.proofs.Double.{one, pow2-scale, pow2-mul}
-use Rattle.scope.specs.Numbers.{whole}
+use Rattle.scope.specs.Numbers.{_≤ᶠ_, nought, whole}
+use Rattle.scope.specs.Limits.{within, proportionOk}
 use Rattle.scope.specs.Packing.{columns}
 use Rattle.scope.specs.Computing.{computing}
 use Rattle.laws.proofs.Cases.{and-iff}
-use Rattle.promises.proofs.numbers.Bounded.{within-mag, pow2-positive}
+use Rattle.promises.proofs.numbers.Bounded.{within-mag, pow2-positive, nought-upto}
+use Rattle.promises.proofs.numbers.InRange.{Between, within-between}
+use Rattle.promises.proofs.numbers.Magnitude.{above-zero-sign}
 use Rattle.promises.proofs.numbers.NeverPast.{rounded-not-above, rounded-not-below, root-not-above, root-not-below}
 use Rattle.promises.proofs.packing.Sizes.{product-bounded, product-sign}
 use Rattle.promises.proofs.packing.Raised.{raised-at-most, raised-above, IsWhole, whole-is}
@@ -52,6 +57,10 @@ power-0 : IsPower 60 (fin false 1 (pos 0))
 unfolding Fin fits mag pow2
 power-0 = record { fin = tt; size = refl }
 
+power-3 : IsPower 63 (fin false 1 (pos 3))
+unfolding Fin fits mag pow2
+power-3 = record { fin = tt; size = refl }
+
 power-27 : IsPower 87 (fin false 1 (pos 27))
 unfolding Fin fits mag pow2
 power-27 = record { fin = tt; size = refl }
@@ -78,7 +87,20 @@ pub record Proportion (p : Float) : Type 0 where
   pub from : pow2 58 ≤ mag binary64 p
   pub to : mag binary64 p ≤ pow2 62
 
-module _ (k : ℕ) (some : 0 < k) (few : k ≤ 2 ^ 53) (p : Float) (P : Proportion p) where
+proportion-between : (p : Float) → T (fits binary64 p) → T (proportionOk p) → Between (nat (pow2 58)) (nat (pow2 62)) p
+unfolding proportionOk Fin fits val mag negative pow2
+proportion-between p f t = within-between (fin false 1 (negsuc 1)) (fin false 1 (pos 2)) p tt tt f t
+
+pub proportion-is : (p : Float) → T (fits binary64 p) → T (proportionOk p) → Proportion p
+proportion-is p f t =
+    let b = proportion-between p f t in
+    let lo = b .from in
+    let s = above-zero-sign p (omega (arith, pow2-positive 58)) in
+    let lower = rw (val-mag binary64 p s) at lo in
+    let upper = rw (val-mag binary64 p s) at (b .to) in
+    record { fin = b .fin; sign = s; from = omega arith; to = omega arith }
+
+module _ (k : ℕ) (few : k ≤ 2 ^ 53) (p : Float) (P : Proportion p) where
   abbrev countRoot : Float
   countRoot = root binary64 (whole k)
 
@@ -90,9 +112,6 @@ module _ (k : ℕ) (some : 0 < k) (few : k ≤ 2 ^ 53) (p : Float) (P : Proporti
 
   counted : IsWhole k (whole k)
   counted = whole-is k few
-
-  count-root-from : pow2 60 ≤ mag binary64 countRoot
-  count-root-from = root-from-power power-0 (whole k) (counted .fin) (counted .sign) (rw (counted .size) (omega (arith, mul-le-mul-right (pow2 60 * pow2 60) some)))
 
   count-root-to : mag binary64 countRoot ≤ pow2 87
   count-root-to = root-up-to-power power-27 (whole k) (counted .fin) (counted .sign) (rw (counted .size) (squared (pow2 60) (pow2 87) (pow2-scale 60 27)))
@@ -127,6 +146,9 @@ module _ (k : ℕ) (some : 0 < k) (few : k ≤ 2 ^ 53) (p : Float) (P : Proporti
       (record { fin = count-root-fin; within = within-mag countRoot (pow2 87) count-root-sign count-root-to })
       (record { fin = proportion-root-fin; within = within-mag proportionRoot (pow2 61) proportion-root-sign proportion-root-to }) .fin
 
+  product-positive : negative product ≡ false
+  product-positive = product-sign countRoot proportionRoot count-root-fin proportion-root-fin count-root-sign proportion-root-sign
+
   product-round : RoundOf binary64 product (unlike (negative countRoot) (negative proportionRoot)) (mag binary64 countRoot * mag binary64 proportionRoot) (2 ^ low binary64)
   product-round = mul-is binary64 countRoot proportionRoot count-root-fin proportion-root-fin
 
@@ -137,38 +159,65 @@ module _ (k : ℕ) (some : 0 < k) (few : k ≤ 2 ^ 53) (p : Float) (P : Proporti
       doubled : (a b c d : ℕ) → d ≡ 2 * c → b ≤ d → a * b ≤ 2 * a * c
       doubled a b c d e h = omega (arith, mul-le-mul-left a h, ap (λ (z : ℕ). a * z) e)
 
-  product-from : mag binary64 countRoot ≤ 2 * mag binary64 product
-  product-from = twice-half (half-held 53 (mag binary64 countRoot) (le-trans long count-root-from) (held binary64 countRoot count-root-fin))
-    where
-      long : 2 ^ 53 ≤ pow2 60
-      long = unfold pow2 in lit≤ tt
-
-      halved : (a u b c d : ℕ) → a ≡ 2 * u → c ≡ 2 * d → d ≤ b → u * c ≤ a * b
-      halved a u b c d e f h = rw (e, f) (omega (arith, mul-le-mul-left u h))
-
-      twice-half : (u : ℕ) × Held 53 u × (mag binary64 countRoot ≡ 2 * u) → mag binary64 countRoot ≤ 2 * mag binary64 product
-      twice-half h =
-          let l = rounded-not-below product-round (fin-finite binary64 product product-fin) (h .0) (h .1)
-          (rw (← one) (halved (mag binary64 countRoot) (h .0) (mag binary64 proportionRoot) (pow2 60) (pow2 59) (h .2) (pow2-scale 59 1) proportion-root-from)) in
-          omega (arith, h .2)
-
   -- ---- the columns lie between half and twice the root of the count
   pub columns-at-most : (c : ℕ) → 2 * mag binary64 countRoot ≤ c * pow2 60 → columns k p ≤ c
   unfolding columns
   columns-at-most c h = raised-at-most product product-fin c (le-trans product-to h)
 
-  pub columns-above : (c : ℕ) → 2 * (c * pow2 60) < mag binary64 countRoot → c < columns k p
-  unfolding columns
-  columns-above c h = raised-above product product-fin (product-sign countRoot proportionRoot count-root-fin proportion-root-fin count-root-sign proportion-root-sign) c (below (c * pow2 60) (mag binary64 product) (mag binary64 countRoot) product-from h)
-    where
-      below : (a b r : ℕ) → r ≤ 2 * b → 2 * a < r → a < b
-      below a b r h g = omega arith
+  -- so does the product, as a float
+  pub product-within : (c : ℕ) → c ≤ 2 ^ 53 → 2 * mag binary64 countRoot ≤ c * pow2 60 → T (within nought (whole c) product)
+  unfolding within
+  product-within c small h =
+      let none = nought-upto 0 in
+      let end = whole-is c small in
+      let size = val-mag binary64 product product-positive in
+      and-iff (nought ≤ᶠ product) (product ≤ᶠ whole c) .1 (
+        le-is binary64 nought product (none .fin) product-fin .1 (rw size (omega (arith, none .within))),
+        le-is binary64 product (whole c) product-fin (end .fin) .1 (rw (size, val-mag binary64 (whole c) (end .sign), end .size) (omega (arith, product-to))),
+      )
 
-  pub some-columns : 0 < columns k p
-  some-columns = columns-above 0 (positive (pow2 60) (mag binary64 countRoot) (pow2-positive 60) count-root-from)
+  -- for 64 boxes it is at most 16
+  pub product-within-16 : k ≤ 64 → T (within nought (whole 16) product)
+  product-within-16 most = product-within 16 (lit≤ tt) (omega (arith, root-8, pow2-scale 60 3))
     where
-      positive : (l r : ℕ) → 0 < l → l ≤ r → 2 * (0 * l) < r
-      positive l r h g = omega arith
+      squared : (L M : ℕ) → M ≡ 8 * L → k * L * L ≤ M * M
+      squared L M e = rw e (omega (arith, mul-le-mul-right (L * L) most))
+
+      root-8 : mag binary64 countRoot ≤ pow2 63
+      root-8 = root-up-to-power power-3 (whole k) (counted .fin) (counted .sign) (rw (counted .size) (squared (pow2 60) (pow2 63) (pow2-scale 60 3)))
+
+  -- ---- and with some boxes
+  module _ (some : 0 < k) where
+    count-root-from : pow2 60 ≤ mag binary64 countRoot
+    count-root-from = root-from-power power-0 (whole k) (counted .fin) (counted .sign) (rw (counted .size) (omega (arith, mul-le-mul-right (pow2 60 * pow2 60) some)))
+
+    product-from : mag binary64 countRoot ≤ 2 * mag binary64 product
+    product-from = twice-half (half-held 53 (mag binary64 countRoot) (le-trans long count-root-from) (held binary64 countRoot count-root-fin))
+      where
+        long : 2 ^ 53 ≤ pow2 60
+        long = unfold pow2 in lit≤ tt
+
+        halved : (a u b c d : ℕ) → a ≡ 2 * u → c ≡ 2 * d → d ≤ b → u * c ≤ a * b
+        halved a u b c d e f h = rw (e, f) (omega (arith, mul-le-mul-left u h))
+
+        twice-half : (u : ℕ) × Held 53 u × (mag binary64 countRoot ≡ 2 * u) → mag binary64 countRoot ≤ 2 * mag binary64 product
+        twice-half h =
+            let l = rounded-not-below product-round (fin-finite binary64 product product-fin) (h .0) (h .1)
+            (rw (← one) (halved (mag binary64 countRoot) (h .0) (mag binary64 proportionRoot) (pow2 60) (pow2 59) (h .2) (pow2-scale 59 1) proportion-root-from)) in
+            omega (arith, h .2)
+
+    pub columns-above : (c : ℕ) → 2 * (c * pow2 60) < mag binary64 countRoot → c < columns k p
+    unfolding columns
+    columns-above c h = raised-above product product-fin product-positive c (below (c * pow2 60) (mag binary64 product) (mag binary64 countRoot) product-from h)
+      where
+        below : (a b r : ℕ) → r ≤ 2 * b → 2 * a < r → a < b
+        below a b r h g = omega arith
+
+    pub some-columns : 0 < columns k p
+    some-columns = columns-above 0 (positive (pow2 60) (mag binary64 countRoot) (pow2-positive 60) count-root-from)
+      where
+        positive : (l r : ℕ) → 0 < l → l ≤ r → 2 * (0 * l) < r
+        positive l r h g = omega arith
 
 -- ---- a test of a count's root r: no proportion makes more than `lines` columns, and every one makes so many that there are no more rows
 -- half of the root, raised
@@ -184,11 +233,11 @@ tested-grid-fits lines k some few p P t =
     let c = halfRaised r in
     let a = and-iff (leb (2 * r) (lines * pow2 60)) (ltb (2 * ((c - 1) * pow2 60)) r && leb k (lines * c)) .0 t in
     let b = and-iff (ltb (2 * ((c - 1) * pow2 60)) r) (leb k (lines * c)) .0 (a .1) in
-    let above = columns-above k some few p P (c - 1) (ltb→lt (2 * ((c - 1) * pow2 60)) r (b .0)) in
+    let above = columns-above k few p P some (c - 1) (ltb→lt (2 * ((c - 1) * pow2 60)) r (b .0)) in
     record {
-      some-column = some-columns k some few p P;
-      few-columns = columns-at-most k some few p P lines (leb→le (2 * r) (lines * pow2 60) (a .0));
-      few-rows = rows-at-most k (columns k p) lines (some-columns k some few p P) (enough c (columns k p) (leb→le k (lines * c) (b .1)) above);
+      some-column = some-columns k few p P some;
+      few-columns = columns-at-most k few p P lines (leb→le (2 * r) (lines * pow2 60) (a .0));
+      few-rows = rows-at-most k (columns k p) lines (some-columns k few p P some) (enough c (columns k p) (leb→le k (lines * c) (b .1)) above);
     }
   where
     enough : (c d : ℕ) → k ≤ lines * c → c - 1 < d → k ≤ lines * d

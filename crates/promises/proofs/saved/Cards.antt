@@ -12,6 +12,7 @@ use borrow.Author.Tests.{le-ltb}
 use Rattle.shapes.specs.declared.circle.Circle.{Circle}
 use Rattle.scope.specs.Limits.{circleCap, regionCap, inputCap}
 use Rattle.scope.specs.Refusals.{given, tooShort, writerRefusal}
+use Rattle.scope.specs.Numbers.{golden}
 use Rattle.scope.specs.Layout.{layout}
 use Rattle.scope.specs.CardFile.{Card, floatOf, valuesRefusal, readCard}
 use Rattle.scope.specs.Print.{printed, answerText, cardText}
@@ -65,7 +66,7 @@ module _ (factor : Float) (cs : List Circle) (masks patterns : List ℕ) where
       let limits = within-limits cs factor masks (map floatOf patterns) accepted in
       omega (arith, file-length factor cs masks patterns (limits .paired ∙ length-map patterns floatOf), limits .few-circles, limits .few-regions)
 
-  shown-again : AreTyped card → valuesRefusal card ≡ 0 → cardText (fileOf card) ≡ printed (layout cs factor masks (map floatOf patterns))
+  shown-again : AreTyped card → valuesRefusal card ≡ 0 → cardText (fileOf card) ≡ printed (layout cs factor masks (map floatOf patterns) golden)
   unfolding inputCap answerText
   shown-again typed accepted =
       short-text (fileOf card) (omega (arith, longest accepted)) ∙ ap answerText (reads-back factor cs masks patterns typed accepted)

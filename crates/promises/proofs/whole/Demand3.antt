@@ -8,7 +8,6 @@ use lib.ListN.{length, getD}
 use lib.Ieee.{Float, binary64, fits}
 use Rattle.rounding.specs.Scale.{pow2}
 use Rattle.shapes.specs.declared.circle.Circle.{Circle}
-use Rattle.scope.specs.Numbers.{golden}
 use Rattle.scope.specs.Limits.{circleCap, radiusOk, factorOk}
 use Rattle.scope.specs.Runs.{filled}
 use Rattle.scope.specs.Links.{Region, regions, circle}
@@ -24,7 +23,7 @@ use Rattle.promises.specs.Demand3.{bound, gapBound, Demand3, GapKept, Di
 use Rattle.laws.proofs.Runs.{getD-filled-any}
 use Rattle.laws.proofs.Numbering.{Numbering}
 use Rattle.laws.proofs.Clusters.{clusters-numbering, same-number-iff-chain, same-filled-number-iff-chain}
-use Rattle.laws.proofs.Accepted.{within-limits}
+use Rattle.laws.proofs.Accepted.{within-limits, layout-accepted-iff}
 use Rattle.laws.proofs.AfterRefusal.{layout-answers}
 use Rattle.promises.proofs.numbers.Ranges.{Sound, circle-accepted}
 use Rattle.promises.proofs.gauge.Carried.{Shifted}
@@ -35,7 +34,8 @@ use Rattle.promises.proofs.whole.Kept.{finite-kept, distance-promised, 
 use Rattle.promises.proofs.packing.Returned.{Arranged}
 use Rattle.promises.proofs.packing.KeptGap.{apart-looser}
 use Rattle.promises.proofs.packing.Shift.{Step}
-use Rattle.promises.proofs.whole.SixtyFour.{Gauged64, padding-64, golden-arranged-64}
+use Rattle.promises.proofs.packing.Proportions.{Proportion, proportion-is}
+use Rattle.promises.proofs.whole.SixtyFour.{Gauged64, padding-64, proportion-arranged-64}
 
 -- ---- the layout of accepted circles
 module _ (cs : List Circle) (rs : List Region) (factor : Float) (sound : (i : ℕ) → i < length cs → Sound (circle cs i)) (radius-fits : (i : ℕ) → i < length cs → T (fits binary64 (circle cs i .radius)))
@@ -54,9 +54,6 @@ module _ (cs : List Circle) (rs : List Region) (factor : Float) (sound : (i : �
 
   abbrev pad : Float
   pad = padding (boxes (g .count) (g .numbers) turned) factor
-
-  abbrev last : List Circle
-  last = centredLayout (packClusters golden (g .numbers) (boxes (g .count) (g .numbers) turned) pad turned)
 
   numbering : Numbering n g
   numbering = clusters-numbering n rs (tolerance rs)
@@ -79,83 +76,89 @@ module _ (cs : List Circle) (rs : List Region) (factor : Float) (sound : (i : �
     spread-y = λ j m l k e. gauge-spread cs rs sound (g .count) (g .numbers) (numbering .inside) j m (below l) (below k) e .1;
   }
 
-  packed : Arranged 37 38 gapBound (g .numbers) pad turned last
-  packed = golden-arranged-64 handed-over factor factor-fits factor-ok
+  -- ---- whatever the proportion
+  module _ (proportion : Float) (P : Proportion proportion) where
+    abbrev last : List Circle
+    last = centredLayout (packClusters proportion (g .numbers) (boxes (g .count) (g .numbers) turned) pad turned)
 
-  -- after the shift of each cluster and before the centring
-  between : ℕ → Circle
-  between k = circle (packed .packed) k
+    packed : Arranged 37 38 gapBound (g .numbers) pad turned last
+    packed = proportion-arranged-64 handed-over factor factor-fits factor-ok proportion P
 
-  placed-in : (k : ℕ) → k < length before → k < length turned
-  placed-in k h = rw (turned-length ∙ sym (offset-length cs rs)) h
+    -- after the shift of each cluster and before the centring
+    between : ℕ → Circle
+    between k = circle (packed .packed) k
 
-  one-shift : {i : ℕ} {dx dy : Float} {c out : Circle} → Step i dx dy c out → Shifted i dx dy c out
-  one-shift h = record { fin-x = h .x .fin; fin-y = h .y .fin; room-x = h .x .room; room-y = h .y .room; x = h .x .is; y = h .y .is; radius = h .radius }
+    placed-in : (k : ℕ) → k < length before → k < length turned
+    placed-in k h = rw (turned-length ∙ sym (offset-length cs rs)) h
 
-  first-shift : (k : ℕ) → k < length before → Shifted 37 (packed .clusterX (getD (g .numbers) k 0)) (packed .clusterY (getD (g .numbers) k 0)) (circle turned k) (between k)
-  unfolding between
-  first-shift k h = one-shift (packed .first k (placed-in k h))
+    one-shift : {i : ℕ} {dx dy : Float} {c out : Circle} → Step i dx dy c out → Shifted i dx dy c out
+    one-shift h = record { fin-x = h .x .fin; fin-y = h .y .fin; room-x = h .x .room; room-y = h .y .room; x = h .x .is; y = h .y .is; radius = h .radius }
 
-  second-shift : (k : ℕ) → k < length before → Shifted 38 (packed .layoutX) (packed .layoutY) (between k) (circle last k)
-  unfolding between
-  second-shift k h = one-shift (packed .second k (placed-in k h))
+    first-shift : (k : ℕ) → k < length before → Shifted 37 (packed .clusterX (getD (g .numbers) k 0)) (packed .clusterY (getD (g .numbers) k 0)) (circle turned k) (between k)
+    unfolding between
+    first-shift k h = one-shift (packed .first k (placed-in k h))
 
-  carried : ClustersCarried (pow2 34 + pow2 33 + pow2 37 + pow2 38) (pow2 92) (g .count) (g .numbers) before last
-  carried =
-      clusters-shifted (g .count) (g .numbers) before turned last 37 38 tt tt (packed .clusterX) (packed .clusterY) (packed .layoutX) (packed .layoutY) between first-shift second-shift
-      (gauge-carries-clusters cs rs sound (g .count) (g .numbers))
+    second-shift : (k : ℕ) → k < length before → Shifted 38 (packed .layoutX) (packed .layoutY) (between k) (circle last k)
+    unfolding between
+    second-shift k h = one-shift (packed .second k (placed-in k h))
 
-  gap-slack : gapBound ≤ bound
-  gap-slack = unfold pow2 in lit≤ tt
+    carried : ClustersCarried (pow2 34 + pow2 33 + pow2 37 + pow2 38) (pow2 92) (g .count) (g .numbers) before last
+    carried =
+        clusters-shifted (g .count) (g .numbers) before turned last 37 38 tt tt (packed .clusterX) (packed .clusterY) (packed .layoutX) (packed .layoutY) between first-shift second-shift
+        (gauge-carries-clusters cs rs sound (g .count) (g .numbers))
 
-  numbered : (i : ℕ) → getD (filled circleCap 0 (g .numbers)) i 0 ≡ getD (g .numbers) i 0
-  numbered i = getD-filled-any circleCap 0 (g .numbers) i
+    gap-slack : gapBound ≤ bound
+    gap-slack = unfold pow2 in lit≤ tt
 
-  same : (i j : ℕ) → getD (filled circleCap 0 (g .numbers)) i 0 ≡ getD (filled circleCap 0 (g .numbers)) j 0 → getD (g .numbers) i 0 ≡ getD (g .numbers) j 0
-  same i j e = sym (numbered i) ∙ e ∙ numbered j
+    numbered : (i : ℕ) → getD (filled circleCap 0 (g .numbers)) i 0 ≡ getD (g .numbers) i 0
+    numbered i = getD-filled-any circleCap 0 (g .numbers) i
 
-  together : (i j : ℕ) → i < n → j < n → Chain n (tolerance rs) rs i j → getD (g .numbers) i 0 ≡ getD (g .numbers) j 0
-  together i j hi hj c = same-number-iff-chain n rs (tolerance rs) i j hi hj .1 (inr c)
+    same : (i j : ℕ) → getD (filled circleCap 0 (g .numbers)) i 0 ≡ getD (filled circleCap 0 (g .numbers)) j 0 → getD (g .numbers) i 0 ≡ getD (g .numbers) j 0
+    same i j e = sym (numbered i) ∙ e ∙ numbered j
 
-  pub arranged-promises : Promises bound cs rs (arranged golden cs factor rs .result) (arranged golden cs factor rs .circles)
-  unfolding arranged
-  arranged-promises =
-      record {
-        padding = padding-64 handed-over factor factor-fits factor-ok .fin;
-        finite = finite-kept cs rs sound (g .count) (g .numbers) last _ _ shifts-error-small (numbering .inside) together carried;
-        gap = λ i j hi hj d. apart-looser gap-slack pad (circle last i) (circle last j) (packed .gap i j (rw turned-length hi) (rw turned-length hj) (λ e. d (numbered i ∙ e ∙ sym (numbered j))));
-        distance = λ i j hi hj e. distance-promised cs rs sound (g .count) (g .numbers) last _ _ shifts-error-small (numbering .inside) together carried i j hi hj (same i j e);
-        reach = reach-promised cs rs sound (g .count) (g .numbers) last _ _ shifts-error-small (numbering .inside) together carried;
-        chain = λ i j hi hj. same-filled-number-iff-chain n rs (tolerance rs) i j hi hj circleCap;
-      }
+    together : (i j : ℕ) → i < n → j < n → Chain n (tolerance rs) rs i j → getD (g .numbers) i 0 ≡ getD (g .numbers) j 0
+    together i j hi hj c = same-number-iff-chain n rs (tolerance rs) i j hi hj .1 (inr c)
+
+    pub arranged-promises : Promises bound cs rs (arranged proportion cs factor rs .result) (arranged proportion cs factor rs .circles)
+    unfolding arranged
+    arranged-promises =
+        record {
+          padding = padding-64 handed-over factor factor-fits factor-ok .fin;
+          finite = finite-kept cs rs sound (g .count) (g .numbers) last _ _ shifts-error-small (numbering .inside) together carried;
+          gap = λ i j hi hj d. apart-looser gap-slack pad (circle last i) (circle last j) (packed .gap i j (rw turned-length hi) (rw turned-length hj) (λ e. d (numbered i ∙ e ∙ sym (numbered j))));
+          distance = λ i j hi hj e. distance-promised cs rs sound (g .count) (g .numbers) last _ _ shifts-error-small (numbering .inside) together carried i j hi hj (same i j e);
+          reach = reach-promised cs rs sound (g .count) (g .numbers) last _ _ shifts-error-small (numbering .inside) together carried;
+          chain = λ i j hi hj. same-filled-number-iff-chain n rs (tolerance rs) i j hi hj circleCap;
+        }
 
 -- ---- of an accepted call, whose floats are f64
 pub layout-promises : Demand3
 unfolding Demand3
-layout-promises cs factor masks areas d h =
-    let a = within-limits cs factor masks areas h in
-    let e = layout-answers cs factor masks areas .on-acceptance h in
+layout-promises cs factor masks areas proportion d fit h =
+    let accepted = layout-accepted-iff cs factor masks areas proportion .0 h in
+    let a = within-limits cs factor masks areas (accepted .0) in
+    let e = layout-answers cs factor masks areas proportion .on-acceptance h in
     subst (λ (l : Layout). Promises bound cs (regions masks areas) (l .result) (l .circles)) (sym e)
     (arranged-promises cs (regions masks areas) factor (λ i l. circle-accepted (circle cs i) (d .x i l) (d .y i l) (d .radius i l) (a .centres i l .0) (a .centres i l .1) (a .radii i l)) (d .radius) (a .radii) (d .factor) (a .factor-inside)
-    (a .few-circles))
+    (a .few-circles) proportion (proportion-is proportion fit (accepted .1)))
 
 -- ---- clause by clause
 pub layout-gap : GapKept
 unfolding GapKept Demand3
-layout-gap cs factor masks areas d h = layout-promises cs factor masks areas d h .gap
+layout-gap cs factor masks areas proportion d fit h = layout-promises cs factor masks areas proportion d fit h .gap
 
 pub layout-distance : DistanceKept
 unfolding DistanceKept Demand3
-layout-distance cs factor masks areas d h i j hi hj equal mi mj =
-    let a = layout-promises cs factor masks areas d h .distance i j hi hj equal mi mj in
+layout-distance cs factor masks areas proportion d fit h i j hi hj equal mi mj =
+    let a = layout-promises cs factor masks areas proportion d fit h .distance i j hi hj equal mi mj in
     (a .shrunk, a .grown)
 
 pub layout-reach : ReachKept
 unfolding ReachKept Demand3
-layout-reach cs factor masks areas d h i hi moved =
-    let r = layout-promises cs factor masks areas d h .reach i hi moved in
+layout-reach cs factor masks areas proportion d fit h i hi moved =
+    let r = layout-promises cs factor masks areas proportion d fit h .reach i hi moved in
     (r .0, r .1, r .2 .room, r .2 .covers)
 
 pub layout-chain : ChainKept
 unfolding ChainKept Demand3
-layout-chain cs factor masks areas d h = layout-promises cs factor masks areas d h .chain
+layout-chain cs factor masks areas proportion d fit h = layout-promises cs factor masks areas proportion d fit h .chain

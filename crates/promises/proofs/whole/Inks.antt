@@ -9,7 +9,7 @@ use lib.Ieee.{Float, neg}
 use lib.ListN.{length, take, drop, take-append-drop}
 use Rattle.shapes.specs.declared.circle.Circle.{Circle}
 use Rattle.shapes.specs.declared.rectangle.Rectangle.{Rectangle}
-use Rattle.scope.specs.Numbers.{_<ᶠ_, golden, e-12, abs}
+use Rattle.scope.specs.Numbers.{_<ᶠ_, e-12, abs}
 use Rattle.scope.specs.Runs.{always}
 use Rattle.scope.specs.Refusals.{inks, layoutRefusal, containerRefusal}
 use Rattle.scope.specs.Links.{regions}
@@ -30,13 +30,14 @@ use Rattle.promises.proofs.whole.Lengths.{arranged-length}
 
 -- ---- the calls on a run
 
-layout-inks : (cs : List Circle) (factor : Float) (masks : List ℕ) (areas : List Float) → inks (layout cs factor masks areas .circles) ≡ inks cs
+layout-inks : (cs : List Circle) (factor : Float) (masks : List ℕ) (areas : List Float) (proportion : Float)
+    → inks (layout cs factor masks areas proportion .circles) ≡ inks cs
 unfolding refusedLayout
-layout-inks cs factor masks areas =
-    let answers = layout-answers cs factor masks areas in
+layout-inks cs factor masks areas proportion =
+    let answers = layout-answers cs factor masks areas proportion in
     let rs = regions masks areas in
-    elim (ℕ-discrete (layoutRefusal cs factor masks areas) 0) [
-      | yes z ↦ rw (answers .on-acceptance z) (carried (λ ds. arranged golden ds factor rs .circles) (λ is ds. ap (λ (l : Layout). l .circles) (arranged-carries golden factor rs is ds)) (λ ds. arranged-length ds factor rs) cs)
+    elim (ℕ-discrete (layoutRefusal cs factor masks areas proportion) 0) [
+      | yes z ↦ rw (answers .on-acceptance z) (carried (λ ds. arranged proportion ds factor rs .circles) (λ is ds. ap (λ (l : Layout). l .circles) (arranged-carries proportion factor rs is ds)) (λ ds. arranged-length proportion ds factor rs) cs)
       | no z ↦ rw (answers .at-refusal z)
     ]
 
@@ -71,17 +72,18 @@ contained-inks cs container =
 
 -- ---- accepted calls with other inks
 
-layout-as-before : (is js : List ℕ) (cs : List Circle) (factor : Float) (masks : List ℕ) (areas : List Float) → layoutRefusal (inked is cs) factor masks areas ≡ 0
-    → layoutRefusal (inked js cs) factor masks areas ≡ 0 → (layout (inked is cs) factor masks areas .result ≡ layout (inked js cs) factor masks areas .result)
-    × (layout (inked is cs) factor masks areas .circles ≡ inked is (layout (inked js cs) factor masks areas .circles))
-layout-as-before is js cs factor masks areas h g =
+layout-as-before : (is js : List ℕ) (cs : List Circle) (factor : Float) (masks : List ℕ) (areas : List Float) (proportion : Float)
+    → layoutRefusal (inked is cs) factor masks areas proportion ≡ 0 → layoutRefusal (inked js cs) factor masks areas proportion ≡ 0
+    → (layout (inked is cs) factor masks areas proportion .result ≡ layout (inked js cs) factor masks areas proportion .result)
+    × (layout (inked is cs) factor masks areas proportion .circles ≡ inked is (layout (inked js cs) factor masks areas proportion .circles))
+layout-as-before is js cs factor masks areas proportion h g =
     let rs = regions masks areas in
     rw (
-      layout-answers (inked is cs) factor masks areas .on-acceptance h,
-      layout-answers (inked js cs) factor masks areas .on-acceptance g,
-      arranged-carries golden factor rs is cs,
-      arranged-carries golden factor rs js cs,
-    ) (refl, sym (inked-again is js (arranged golden cs factor rs .circles)))
+      layout-answers (inked is cs) factor masks areas proportion .on-acceptance h,
+      layout-answers (inked js cs) factor masks areas proportion .on-acceptance g,
+      arranged-carries proportion factor rs is cs,
+      arranged-carries proportion factor rs js cs,
+    ) (refl, sym (inked-again is js (arranged proportion cs factor rs .circles)))
 
 container-as-before : (is js : List ℕ) (cs : List Circle) (container : Rectangle) → containerRefusal (inked is cs) container ≡ 0
     → containerRefusal (inked js cs) container ≡ 0 → contained (inked is cs) container .circles ≡ inked is (contained (inked js cs) container .circles)
@@ -103,9 +105,10 @@ inks-append (c ∷ cs) ds = ap (λ (is : List ℕ). c .ink ∷ is) (inks-append 
 behind : (n : ℕ) (cs front : List Circle) → inks front ≡ inks (take n cs) → inks (front ++ drop n cs) ≡ inks cs
 behind n cs front e = inks-append front (drop n cs) ∙ rw (e, ← inks-append (take n cs) (drop n cs), take-append-drop n cs)
 
-first-layout-inks : (n : ℕ) (cs : List Circle) (factor : Float) (masks : List ℕ) (areas : List Float) → inks (firstLayout n cs factor masks areas .circles) ≡ inks cs
+first-layout-inks : (n : ℕ) (cs : List Circle) (factor : Float) (masks : List ℕ) (areas : List Float) (proportion : Float)
+    → inks (firstLayout n cs factor masks areas proportion .circles) ≡ inks cs
 unfolding firstLayout refusedLayout
-first-layout-inks n cs factor masks areas = by-many n (λ h. rw h) (λ h. rw h (behind n cs _ (layout-inks (take n cs) factor masks areas)))
+first-layout-inks n cs factor masks areas proportion = by-many n (λ h. rw h) (λ h. rw h (behind n cs _ (layout-inks (take n cs) factor masks areas proportion)))
 
 first-contained-inks : (n : ℕ) (cs : List Circle) (container : Rectangle) → inks (firstContained n cs container .circles) ≡ inks cs
 unfolding firstContained

@@ -8,7 +8,6 @@ use lib.Ieee.{Float}
 use lib.ListN.{length}
 use Rattle.shapes.specs.declared.circle.Circle.{Circle}
 use Rattle.shapes.specs.declared.rectangle.Rectangle.{Rectangle}
-use Rattle.scope.specs.Numbers.{golden}
 use Rattle.scope.specs.Runs.{inTurn}
 use Rattle.scope.specs.Links.{Region}
 use Rattle.scope.specs.Gauge.{rotateCluster, inCluster, gauged}
@@ -28,10 +27,11 @@ gauged-length : (count : ℕ) (numbers : List ℕ) (cs : List Circle) → length
 unfolding gauged
 gauged-length count numbers cs = turns-length count (inCluster numbers) cs
 
-packed-length : (numbers : List ℕ) (rects : List Rectangle) (pad : Float) (cs : List Circle) → length (packClusters golden numbers rects pad cs) ≡ length cs
+packed-length : (proportion : Float) (numbers : List ℕ) (rects : List Rectangle) (pad : Float) (cs : List Circle)
+    → length (packClusters proportion numbers rects pad cs) ≡ length cs
 unfolding packClusters shifted
-packed-length numbers rects pad cs = either-length (ltb (length rects) 2) (length cs) cs _ refl (length-tab (length cs) _)
+packed-length proportion numbers rects pad cs = either-length (ltb (length rects) 2) (length cs) cs _ refl (length-tab (length cs) _)
 
-pub arranged-length : (cs : List Circle) (factor : Float) (rs : List Region) → length (arranged golden cs factor rs .circles) ≡ length cs
+pub arranged-length : (proportion : Float) (cs : List Circle) (factor : Float) (rs : List Region) → length (arranged proportion cs factor rs .circles) ≡ length cs
 unfolding arranged
-arranged-length cs factor rs = centred-length _ ∙ packed-length _ _ _ _ ∙ gauged-length _ _ _ ∙ offset-length cs rs
+arranged-length proportion cs factor rs = centred-length _ ∙ packed-length _ _ _ _ _ ∙ gauged-length _ _ _ ∙ offset-length cs rs

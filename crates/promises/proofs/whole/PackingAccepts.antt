@@ -1,4 +1,4 @@
--- The packing refuses no accepted layout: its clusters' sides and its padding are within the packing's ranges.
+-- The packing refuses no accepted layout: its clusters' sides and its padding are within the packing's ranges, as the proportion is.
 use Prim.Native.Nat.{ℕ, _<_}
 use native.Mathlib.Omega.{arith}
 use mathlib.Core.Path.{_≡_}
@@ -15,7 +15,7 @@ use Rattle.rounding.proofs.Order.{le-is}
 use Rattle.shapes.specs.declared.circle.Circle.{Circle}
 use Rattle.shapes.specs.declared.rectangle.Rectangle.{Rectangle}
 use Rattle.scope.specs.Numbers.{nought}
-use Rattle.scope.specs.Limits.{circleCap, within, sideOk, paddingOk, factorOk}
+use Rattle.scope.specs.Limits.{circleCap, within, sideOk, paddingOk, factorOk, proportionOk}
 use Rattle.scope.specs.Links.{regions, circle}
 use Rattle.scope.specs.Refusals.{badSide, badPadding, packRefusal}
 use Rattle.scope.specs.Groups.{Clusters, clusters}
@@ -29,7 +29,7 @@ use Rattle.promises.specs.Demand3.{AreDoubles}
 use Rattle.laws.proofs.Cases.{and-iff, not-iff}
 use Rattle.laws.proofs.Runs.{any-at}
 use Rattle.laws.specs.Limits.{WithinLimits}
-use Rattle.laws.proofs.Accepted.{not-too-many-iff}
+use Rattle.laws.proofs.Accepted.{not-too-many-iff, not-bad-proportion-iff}
 use Rattle.laws.proofs.EntryPoints.{pack-reads}
 use Rattle.promises.proofs.numbers.Bounded.{Bounded, Upto}
 use Rattle.promises.proofs.numbers.Ranges.{circle-accepted}
@@ -69,22 +69,23 @@ module _ {g : Clusters} {cs : List Circle} (G : Gauged64 g cs) (factor : Float) 
       not-iff (sideOk (rectangle rects a .width) && sideOk (rectangle rects a .height)) .0 t
       (and-iff (sideOk (rectangle rects a .width)) (sideOk (rectangle rects a .height)) .1 (side-passes _ (width-64 G factor fit ok a below), side-passes _ (height-64 G factor fit ok a below)))
 
-  pub packing-accepts : packRefusal rects (padding rects factor) ≡ 0
+  pub packing-accepts : (proportion : Float) → T (proportionOk proportion) → packRefusal rects (padding rects factor) proportion ≡ 0
   unfolding badPadding circleCap
-  packing-accepts =
-      pack-reads rects (padding rects factor) .accepted .1 (
+  packing-accepts proportion inside =
+      pack-reads rects (padding rects factor) proportion .accepted .1 (
         not-too-many-iff (length rects) .1 (rw (boxes-length (g .count) (g .numbers) cs) (few-clusters G)),
         (
           λ t. let e = any-at badSide rects noRectangle .0 t in sides-pass (e .0) (e .1) (e .2),
-          (λ t. not-iff (paddingOk (padding rects factor)) .0 t (padding-passes _ (padding-64 G factor fit ok) (padding-not-negative-64 G factor fit ok)), tt),
+          (λ t. not-iff (paddingOk (padding rects factor)) .0 t (padding-passes _ (padding-64 G factor fit ok) (padding-not-negative-64 G factor fit ok)), (not-bad-proportion-iff proportion .1 inside, tt)),
         ),
       )
 
 -- ---- of a call within the limits
-pub layout-packs : (cs : List Circle) (factor : Float) (masks : List ℕ) (areas : List Float) → AreDoubles cs factor → WithinLimits cs factor masks areas
+pub layout-packs : (cs : List Circle) (factor : Float) (masks : List ℕ) (areas : List Float) (proportion : Float) → AreDoubles cs factor
+    → WithinLimits cs factor masks areas → T (proportionOk proportion)
     → let rs = regions masks areas in let g = clusters (length cs) rs (tolerance rs) in let turned = gauged (g .count) (g .numbers) (offset cs rs .circles) in
-    packRefusal (boxes (g .count) (g .numbers) turned) (padding (boxes (g .count) (g .numbers) turned) factor) ≡ 0
-layout-packs cs factor masks areas d a =
+    packRefusal (boxes (g .count) (g .numbers) turned) (padding (boxes (g .count) (g .numbers) turned) factor) proportion ≡ 0
+layout-packs cs factor masks areas proportion d a inside =
     packing-accepts
     (handed-over cs (regions masks areas) factor (λ i l. circle-accepted (circle cs i) (d .x i l) (d .y i l) (d .radius i l) (a .centres i l .0) (a .centres i l .1) (a .radii i l)) (d .radius) (a .radii) (d .factor) (a .factor-inside) (a .few-circles))
-    factor (d .factor) (a .factor-inside)
+    factor (d .factor) (a .factor-inside) proportion inside

@@ -1,5 +1,5 @@
 -- Document 01's numbers: 64 circles with radii from 2^-20 to 2^20, sides of at most 2^23, padding of at most 2^26. Up to 16 columns and rows the gap is short
--- of the padding by at most 2^-19, and that many serve every proportion from 1/4 to 4; 1.618 needs 11.
+-- of the padding by at most 2^-19, and no proportion from 1/4 to 4 makes more.
 use Prim.Native.Nat.{ℕ, _+_, _*_, _≤_, _<_}
 use native.Mathlib.Omega.{arith}
 use mathlib.Core.Path.{_≡_}
@@ -10,7 +10,6 @@ use lib.Ieee.{Float, binary64, fits}
 use Rattle.algebra.specs.Integer.{Z, nat, Within, _⊖_, _≼_, _≺_}
 use Rattle.rounding.specs.Scale.{pow2}
 use Rattle.shapes.specs.declared.circle.Circle.{Circle}
-use Rattle.scope.specs.Numbers.{golden}
 use Rattle.scope.specs.Limits.{circleCap, radiusOk, factorOk}
 use Rattle.scope.specs.Links.{circle}
 use Rattle.scope.specs.Groups.{Clusters}
@@ -21,7 +20,7 @@ use Rattle.promises.specs.Demand3.{gapBound}
 use Rattle.laws.proofs.Numbering.{Numbering, numberIn}
 use Rattle.promises.proofs.numbers.Bounded.{Bounded, Upto}
 use Rattle.promises.proofs.numbers.InRange.{radius-bounded, radius-at-least, radius-lifted, factor-bounded, factor-not-negative}
-use Rattle.promises.proofs.packing.Columns.{GridFits, grid-wider, golden-grid-fits}
+use Rattle.promises.proofs.packing.Columns.{GridFits}
 use Rattle.promises.proofs.packing.Proportions.{Proportion, grid-fits-64}
 use Rattle.promises.proofs.packing.ClusterBoxes.{Clustered}
 use Rattle.promises.proofs.packing.Returned.{Arranged, returned}
@@ -107,9 +106,6 @@ module _ {g : Clusters} {cs : List Circle} (G : Gauged64 g cs) where
         → Arranged 37 38 gapBound (g .numbers) pad cs (returned proportion (g .count) (g .numbers) cs pad)
     arranged-64 proportion grid = packed-and-centred budget64 clustered few-clusters factor (factor-bounded factor fit ok) proportion grid
 
-    -- any from 1/4 to 4 (for request 3 of document 02)
+    -- so any from 1/4 to 4
     pub proportion-arranged-64 : (proportion : Float) → Proportion proportion → Arranged 37 38 gapBound (g .numbers) pad cs (returned proportion (g .count) (g .numbers) cs pad)
     proportion-arranged-64 proportion P = arranged-64 proportion (λ many. grid-fits-64 (g .count) (omega arith) few-clusters proportion P)
-
-    pub golden-arranged-64 : Arranged 37 38 gapBound (g .numbers) pad cs (returned golden (g .count) (g .numbers) cs pad)
-    golden-arranged-64 = arranged-64 golden (λ many. grid-wider (omega arith) (golden-grid-fits (g .count) (omega arith) few-clusters))

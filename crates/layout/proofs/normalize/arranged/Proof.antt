@@ -46,7 +46,7 @@ placed-requires c κs =
       accepted-lifted _ _ _ _ _ _ (p .2) (p .3),
       few-clusters _ _ _ _ _ _ (p .2) (p .3) (p .0) _ t (grouped (f .result)) (f .ensures .0),
       numbers-inside _ _ _ _ _ _ (p .2) (p .3) (p .0) _ t (grouped (f .result)) (f .ensures .0),
-      clusters-packable _ _ _ _ _ _ (p .2) (p .3) (p .0) _ t (grouped (f .result)) (f .ensures .0) (p .4) _ (o .ensures .0),
+      clusters-packable _ _ _ _ _ _ (p .2) (p .3) (p .0) _ t (grouped (f .result)) (f .ensures .0) (p .4) _ _ (o .ensures .0) (p .5),
     )
 
 same-length : tie.Need-same-length
@@ -63,8 +63,8 @@ returns c =
     let f = c .before .before .before .before .before .before .before .before .before .before .find-clusters-from-exclusive-regions in
     let o = c .before .before .before .before .before .before .before .before .before .before .before .before .before .before .before .parted in
     let q = c .before .before .before .before .placed .ensures in (
-      whole-result _ _ _ _ _ _ (p .2) (p .3) (p .0) _ t (grouped (f .result)) (f .ensures .0) (p .4) _ (o .ensures .0) _ _ (o .ensures .1) (q .0),
-      q .1 ∙ whole-circles _ _ _ _ _ _ (p .2) (p .3) (p .0) _ t (grouped (f .result)) (f .ensures .0) (p .4) _ (o .ensures .0),
+      whole-result _ _ _ _ _ _ (p .2) (p .3) (p .0) _ t (grouped (f .result)) (f .ensures .0) (p .4) _ _ (o .ensures .0) _ _ (o .ensures .1) (q .0),
+      q .1 ∙ whole-circles _ _ _ _ _ _ (p .2) (p .3) (p .0) _ t (grouped (f .result)) (f .ensures .0) (p .4) _ _ (o .ensures .0),
     )
 
 pub arranged-spec : {M : Type 1} → statement M

@@ -42,7 +42,7 @@ arranged-requires c κs =
     let a = S .args in
     let long = part-length (a .n) _ (a .xs .now) (p .1) (p .0) in
     let doubles = bare-doubles (a .n) (a .xs .now) (a .ys .now) (a .radii .now) (a .factor) (c .before .before .before .before .before .before .before .slice-known .given) (c .before .before .before .before .before .before .slice-known2 .given) (c .before .before .before .before .before .shared-slice-known .given) (S .good .1 .1 .1 .1 .0 .1) in
-    (omega (arith, long, p .0), part-length (a .n) _ (a .ys .now) (p .2) (p .0) ∙ sym long, part-length (a .n) _ (a .radii .now) (p .3) (p .0) ∙ sym long, rw sub-zero (p .4), rw sub-zero doubles)
+    (omega (arith, long, p .0), part-length (a .n) _ (a .ys .now) (p .2) (p .0) ∙ sym long, part-length (a .n) _ (a .radii .now) (p .3) (p .0) ∙ sym long, rw sub-zero (p .4), rw sub-zero doubles, p .5)
 
 same-length : tie.Need-same-length
 same-length c = search needs
@@ -58,7 +58,7 @@ returns c =
     let r = c .before .before .before .before .arranged in
     let doubles = bare-doubles (a .n) (a .xs .now) (a .ys .now) (a .radii .now) (a .factor) (c .before .before .before .before .before .before .before .before .before .before .before .before .slice-known .given) (c .before .before .before .before .before .before .before .before .before .before .before .slice-known2 .given) (c .before .before .before .before .before .before .before .before .before .before .shared-slice-known .given) (S .good .1 .1 .1 .1 .0 .1) in
     let long = part-length (a .n) _ (a .xs .now) (p .1) (p .0) in
-    λ inks h. laid-accepted _ _ _ _ inks _ _ _ (p .0) h doubles _ _ _ (omega (arith, long, r .kept)) (omega (arith, part-length (a .n) _ (a .ys .now) (p .2) (p .0), r .kept)) (rw sub-zero at (r .ensures .0)) (rw sub-zero at (r .ensures .1))
+    λ inks h. laid-accepted _ _ _ _ inks _ _ _ _ (p .0) h doubles (S .good .1 .1 .1 .1 .1 .1 .1 .0 .1) _ _ _ (omega (arith, long, r .kept)) (omega (arith, part-length (a .n) _ (a .ys .now) (p .2) (p .0), r .kept)) (rw sub-zero at (r .ensures .0)) (rw sub-zero at (r .ensures .1))
 
 pub in-front-spec : {M : Type 1} → statement M
 in-front-spec =

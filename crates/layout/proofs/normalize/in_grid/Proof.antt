@@ -33,7 +33,7 @@ returns c =
     let packing = c .before .before .before .before .before .before .before .before .before .before .before .before .before .before .before .before .pack-sides .ensures in
     let long = boxes-length (a .count) (a .numbers .now) _ in (
       b .1,
-      packed-by (a .count) (a .numbers .now) (a .factor) (a .xs .now) (a .ys .now) (a .radii .now) (p .0) (p .2) (p .3) (p .4) (p .5) (S .pre .1) long _ _ _ _ (b .0) (p .6) _ _ _ _ _ _ _ _ (b .1) (packing .0)
+      packed-by (a .count) (a .numbers .now) (a .factor) (a .proportion) (a .xs .now) (a .ys .now) (a .radii .now) (p .0) (p .2) (p .3) (p .4) (p .5) (S .pre .1) long _ _ _ _ (b .0) (p .6) _ _ _ _ _ _ _ _ (b .1) (packing .0)
           (packing .1 .0) (packing .1 .1) (c .before .before .before .before .before .before .before .before .before .before .shift .ensures) (c .before .before .shift2 .ensures),
     )
 

@@ -18,7 +18,7 @@ recentred-requires c κs =
     let S = c .before .before .before .before .before .before .before .before .before .before .before .before .before .before .before in
     let a = S .args in
     let s = c .before .before .before .before .before .before .before .before .split-array .ensures in
-    rw (c .written .ensures) (first-fits (a .n) (a .circles) (S .good .0 .1 .0 .1) _ _ _ _ _ _ (s .1, s .2, s .3, s .4) (a .factor) (a .masks .now) (a .areas .now) (c .before .before .before .laid .result) _ _ (c .before .before .before .laid .ensures))
+    rw (c .written .ensures) (first-fits (a .n) (a .circles) (S .good .0 .1 .0 .1) _ _ _ _ _ _ (s .1, s .2, s .3, s .4) (a .factor) (a .masks .now) (a .areas .now) (a .proportion) (c .before .before .before .laid .result) _ _ (c .before .before .before .laid .ensures))
 
 returns : tie.Need-returns
 returns c =
@@ -26,8 +26,8 @@ returns c =
     let a = S .args in
     let s = c .before .before .before .before .before .before .before .before .before .split-array .ensures in
     rw (c .recentred .ensures, c .before .written .ensures) (
-      first-answer (a .n) (a .circles) (S .good .0 .1 .0 .1) _ _ _ _ _ _ (s .1, s .2, s .3, s .4) (a .factor) (a .masks .now) (a .areas .now) (c .before .before .before .before .laid .result) _ _ (c .before .before .before .before .laid .ensures),
-      first-promises (a .n) (a .circles) (S .good .0 .1 .0 .1) _ _ _ _ _ _ (s .1, s .2, s .3, s .4) (a .factor) (a .masks .now) (a .areas .now) (c .before .before .before .before .laid .result) _ _ (c .before .before .before .before .laid .ensures),
+      first-answer (a .n) (a .circles) (S .good .0 .1 .0 .1) _ _ _ _ _ _ (s .1, s .2, s .3, s .4) (a .factor) (a .masks .now) (a .areas .now) (a .proportion) (c .before .before .before .before .laid .result) _ _ (c .before .before .before .before .laid .ensures),
+      first-promises (a .n) (a .circles) (S .good .0 .1 .0 .1) _ _ _ _ _ _ (s .1, s .2, s .3, s .4) (a .factor) (a .masks .now) (a .areas .now) (a .proportion) (c .before .before .before .before .laid .result) _ _ (c .before .before .before .before .laid .ensures),
     )
 
 pub normalize-layout-with-clusters-by-value-spec : {M : Type 1} → statement M

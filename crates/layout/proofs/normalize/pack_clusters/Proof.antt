@@ -7,7 +7,7 @@ use Rattle.layout.proofs.normalize.pack_clusters.Tie as tie
 
 returns : tie.Need-returns
 unfolding ofBits
-returns c = few-clusters-stay _ _ _ _ (c .if1 .taken)
+returns c = few-clusters-stay _ _ _ _ _ (c .if1 .taken)
 
 in-grid-requires : tie.Need-in-grid-requires
 in-grid-requires c κs = search needs

@@ -16,7 +16,11 @@ pack-clusters-requires c κs =
     (omega (arith, p .0, g .kept), omega (arith, p .1, g .kept), omega (arith, p .2, g .kept), p .3, p .4, p .5, rw (g .ensures _ (p .3)) (p .6))
 
 center-layout-requires : tie.Need-center-layout-requires
-center-layout-requires c κs = search needs
+center-layout-requires c κs =
+    let p = c .before .before .before .before .before .before .before .before .before .before .before .before .before .before .before .before .before .before .before .before .pre in
+    let g = c .before .before .before .before .before .before .before .before .before .before .before .before .before .gauged-clusters in
+    let k = c .before .before .before .before .before .before .pack-clusters in
+    (omega (arith, p .0, g .kept, k .kept), omega (arith, p .1, g .kept, k .kept), p .3)
 
 same-length : tie.Need-same-length
 same-length c = search needs

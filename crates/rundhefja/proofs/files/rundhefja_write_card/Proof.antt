@@ -29,11 +29,11 @@ use denote.Triple.Call.{calls-at}
 use denote.Triple.Spec.{Spec, Meets, tripleOf}
 use denote.Triple.Table.{entered, cited}
 use Rattle.shapes.proofs.circle.Circle as T
-use Rattle.card_file.proofs.Written as R
-use Rattle.card_file.proofs.Written.Laws as R′
-use Rattle.card_file.proofs.write_card.Symbol as callee-def
-use Rattle.card_file.proofs.write_card.Symbol.{name as #callee}
-use Rattle.card_file.proofs.write_card.Met as callee-thm
+use Rattle.card_output.proofs.Written as R
+use Rattle.card_output.proofs.Written.Laws as R′
+use Rattle.card_output.proofs.write_card.Symbol as callee-def
+use Rattle.card_output.proofs.write_card.Symbol.{name as #callee}
+use Rattle.card_output.proofs.write_card.Met as callee-thm
 use Rattle.rundhefja.proofs.PassOn.{values, entry, enters, opens, copies, passes-back}
 use Rattle.rundhefja.proofs.files.rundhefja_write_card.Key.{name as #call}
 use Rattle.rundhefja.proofs.files.rundhefja_write_card as thin
@@ -95,4 +95,4 @@ rundhefja-write-card-spec 𝓤 H 𝓜 𝓖 𝓡 =
     let Con = Con 𝓤 H (𝓖 .A) (givenOf 𝓤 H 𝓜 𝓖) (𝓜 .mem) (𝓡 .run) in
     entered 𝓤 H Con (tables 𝓤 H 𝓜 𝓡 code.env .C) (tables 𝓤 H 𝓜 𝓡 code.env .Λ) #call code.function (code.unfolded 𝓤 H 𝓜 𝓡)
     (meets 𝓤 H (𝓖 .A) (givenOf 𝓤 H 𝓜 𝓖) (𝓜 .mem) (𝓡 .run) (tablesOf 𝓤 H 𝓜 (tables 𝓤 H 𝓜 𝓡 code.env))
-    (cited 𝓤 H Con 𝓜 𝓡 code.env #callee callee-def.routine code.calls-card-file·write-card (callee-thm.met 𝓤 H 𝓜 𝓖 𝓡)))
+    (cited 𝓤 H Con 𝓜 𝓡 code.env #callee callee-def.routine code.calls-card-output·write-card (callee-thm.met 𝓤 H 𝓜 𝓖 𝓡)))

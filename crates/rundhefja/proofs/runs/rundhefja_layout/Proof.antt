@@ -41,7 +41,7 @@ use Rattle.rundhefja.proofs.runs.rundhefja_layout.Statement as stated
 use Rattle.rundhefja.proofs.runs.rundhefja_layout.Code as code
 
 abbrev sp : (κs : Lfts (thin.signature .lifetimes)) → Spells (typesAt (thin.signature .params) κs)
-sp κs = (slice-vals, (float-vals binary64, (slice-vals, (slice-vals, tt))))
+sp κs = (slice-vals, (float-vals binary64, (slice-vals, (slice-vals, (float-vals binary64, tt)))))
 
 module _ {M : Type 1} (𝓤 : URA M) (H : Heap 𝓤) (A : Atoms 𝓤) (W : Given 𝓤 H A) (mem : Memory → SProp 𝓤) (run : Routine → Fun 𝓤) where
   abbrev spec : Spec 𝓤 thin.signature
@@ -53,15 +53,15 @@ module _ {M : Type 1} (𝓤 : URA M) (H : Heap 𝓤) (A : Atoms 𝓤) (W : Given
   meets : (𝓣 : Tables 𝓤 H) → Triple 𝓤 (𝓣 .C #callee) Con → Meets 𝓤 H A thin.signature (WpFn 𝓤 H (𝓣 .C) (𝓣 .Λ) code.function) spec
   meets 𝓣 known =
       enters 𝓤 H A thin.signature spec sp (WpFn 𝓤 H (𝓣 .C) (𝓣 .Λ) code.function)
-      (λ κs. (mut-slice-tells (named 0) (κs .0) T.the-row, (float-tells binary64, (shr-slice-tells (named 1) (κs .1 .0) u64, (shr-slice-tells (named 2) (κs .1 .1 .0) f64, tt)))))
-      (λ κs. (mut-slice-lawful 𝓤 H A W (named 0) (κs .0) T.the-row, (float-lawful 𝓤 H A W binary64, (shr-slice-lawful 𝓤 H A W (named 1) (κs .1 .0) u64, (shr-slice-lawful 𝓤 H A W (named 2) (κs .1 .1 .0) f64, tt)))))
+      (λ κs. (mut-slice-tells (named 0) (κs .0) T.the-row, (float-tells binary64, (shr-slice-tells (named 1) (κs .1 .0) u64, (shr-slice-tells (named 2) (κs .1 .1 .0) f64, (float-tells binary64, tt))))))
+      (λ κs. (mut-slice-lawful 𝓤 H A W (named 0) (κs .0) T.the-row, (float-lawful 𝓤 H A W binary64, (shr-slice-lawful 𝓤 H A W (named 1) (κs .1 .0) u64, (shr-slice-lawful 𝓤 H A W (named 2) (κs .1 .1 .0) f64, (float-lawful 𝓤 H A W binary64, tt))))))
       (λ κs qs bounds a g typed.
       let y = entry 𝓤 H A thin.signature spec sp κs qs bounds a g in
       qed W (raw (Con .pre y) ∷ []) ∵ enter ! (𝓣 .C) (𝓣 .Λ) code.function (values 𝓤 H A thin.signature spec sp κs a) _ $ opens 𝓤 H A typed (λ b bs.
       -- the circles are reborrowed: where they lie, and then with their number
-      assigns ! (addr ! (from ! (fld ! refl (hop ! (look-in ! 2 (sub ! 0 refl (whole !))) (stop !))))) (from ! (stop !)) (init ! 10 refl (tt, tt)) $
-      assigns ! (agg ! (and-then ! (load ! (from ! (stop !)) (look ! 10 refl)) (and-then ! (load ! (from ! (fld ! refl (stop !))) (look-in ! 2 (sub ! 1 refl (whole !)))) (no-more !)))) (from ! (stop !)) (init ! 12 refl (typed .0)) $
-      move ! (14 ∷ []) $ calls-at ! (fmOf 𝓤 H (W .laws) 𝓣) Con known y (copies 𝓤 H A 13 refl (copies 𝓤 H A 5 refl (copies 𝓤 H A 7 refl (copies 𝓤 H A 9 refl (no-more !))))) (λ v.
+      assigns ! (addr ! (from ! (fld ! refl (hop ! (look-in ! 2 (sub ! 0 refl (whole !))) (stop !))))) (from ! (stop !)) (init ! 12 refl (tt, tt)) $
+      assigns ! (agg ! (and-then ! (load ! (from ! (stop !)) (look ! 12 refl)) (and-then ! (load ! (from ! (fld ! refl (stop !))) (look-in ! 2 (sub ! 1 refl (whole !)))) (no-more !)))) (from ! (stop !)) (init ! 14 refl (typed .0)) $
+      move ! (16 ∷ []) $ calls-at ! (fmOf 𝓤 H (W .laws) 𝓣) Con known y (copies 𝓤 H A 15 refl (copies 𝓤 H A 5 refl (copies 𝓤 H A 7 refl (copies 𝓤 H A 9 refl (copies 𝓤 H A 11 refl (no-more !)))))) (λ v.
       passes-back 𝓤 H A thin.signature spec W (values 𝓤 H A thin.signature spec sp κs a ++ vptr (a .0 .ptr .0) (a .0 .ptr .1) ∷ sliceVal (a .0 .ptr) (length (a .0 .now)) ∷ []) y v (λ r is. LL.lawful R.the-type R′.the-laws 𝓤 H A W .typed r _ is .0))))
 
 pub rundhefja-layout-spec : {M : Type 1} → stated.statement M

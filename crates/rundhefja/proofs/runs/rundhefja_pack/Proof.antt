@@ -37,7 +37,7 @@ use Rattle.rundhefja.proofs.runs.rundhefja_pack.Statement as stated
 use Rattle.rundhefja.proofs.runs.rundhefja_pack.Code as code
 
 abbrev sp : (κs : Lfts (thin.signature .lifetimes)) → Spells (typesAt (thin.signature .params) κs)
-sp κs = (slice-vals, (float-vals binary64, tt))
+sp κs = (slice-vals, (float-vals binary64, (float-vals binary64, tt)))
 
 module _ {M : Type 1} (𝓤 : URA M) (H : Heap 𝓤) (A : Atoms 𝓤) (W : Given 𝓤 H A) (mem : Memory → SProp 𝓤) (run : Routine → Fun 𝓤) where
   abbrev spec : Spec 𝓤 thin.signature
@@ -49,12 +49,12 @@ module _ {M : Type 1} (𝓤 : URA M) (H : Heap 𝓤) (A : Atoms 𝓤) (W : Given
   meets : (𝓣 : Tables 𝓤 H) → Triple 𝓤 (𝓣 .C #callee) Con → Meets 𝓤 H A thin.signature (WpFn 𝓤 H (𝓣 .C) (𝓣 .Λ) code.function) spec
   meets 𝓣 known =
       enters 𝓤 H A thin.signature spec sp (WpFn 𝓤 H (𝓣 .C) (𝓣 .Λ) code.function)
-      (λ κs. (shr-slice-tells (named 0) (κs .0) T.the-row, (float-tells binary64, tt)))
-      (λ κs. (shr-slice-lawful 𝓤 H A W (named 0) (κs .0) T.the-row, (float-lawful 𝓤 H A W binary64, tt)))
+      (λ κs. (shr-slice-tells (named 0) (κs .0) T.the-row, (float-tells binary64, (float-tells binary64, tt))))
+      (λ κs. (shr-slice-lawful 𝓤 H A W (named 0) (κs .0) T.the-row, (float-lawful 𝓤 H A W binary64, (float-lawful 𝓤 H A W binary64, tt))))
       (λ κs qs bounds a g typed.
       let y = entry 𝓤 H A thin.signature spec sp κs qs bounds a g in
       qed W (raw (Con .pre y) ∷ []) ∵ enter ! (𝓣 .C) (𝓣 .Λ) code.function (values 𝓤 H A thin.signature spec sp κs a) _ $ opens 𝓤 H A typed (λ b bs.
-      move ! (6 ∷ []) $ calls-at ! (fmOf 𝓤 H (W .laws) 𝓣) Con known y (copies 𝓤 H A 3 refl (copies 𝓤 H A 5 refl (no-more !))) (λ v.
+      move ! (8 ∷ []) $ calls-at ! (fmOf 𝓤 H (W .laws) 𝓣) Con known y (copies 𝓤 H A 3 refl (copies 𝓤 H A 5 refl (copies 𝓤 H A 7 refl (no-more !)))) (λ v.
       passes-back 𝓤 H A thin.signature spec W (values 𝓤 H A thin.signature spec sp κs a) y v (λ r is. LL.lawful R.the-type R′.the-laws 𝓤 H A W .typed r _ is .0))))
 
 pub rundhefja-pack-spec : {M : Type 1} → stated.statement M

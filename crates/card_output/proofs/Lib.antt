@@ -1,0 +1,9 @@
+pub mod Digits
+pub mod Putting
+pub mod ToBytes
+pub mod PutFields
+pub mod Printing
+pub mod ClusterNumbers
+pub mod Texts
+pub mod FrontCards
+pub mod CardRuns

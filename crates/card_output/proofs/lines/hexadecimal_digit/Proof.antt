@@ -1,0 +1,30 @@
+-- `hexadecimal_digit` meets its contract.
+use borrow.Author.Needs.{needs}
+use borrow.Author.Tests.{lt-ltb, le-ltb}
+use Rattle.scope.specs.Print.{hexDigit}
+use Rattle.card_output.proofs.lines.hexadecimal_digit.Statement.{statement}
+use Rattle.card_output.proofs.lines.hexadecimal_digit.Tie as tie
+
+cast-result : tie.Need-cast-result
+cast-result c = search needs
+
+add-result : tie.Need-add-result
+add-result c = search needs
+
+returns : tie.Need-returns
+unfolding hexDigit
+returns c = rw (lt-ltb _ 10 (c .if1 .taken))
+
+cast-result-2 : tie.Need-cast-result-2
+cast-result-2 c = search needs
+
+add-result-2 : tie.Need-add-result-2
+add-result-2 c = search needs
+
+returns-2 : tie.Need-returns-2
+unfolding hexDigit
+returns-2 c = rw (le-ltb _ 10 (c .if1 .left))
+
+pub hexadecimal-digit-spec : {M : Type 1} → statement M
+hexadecimal-digit-spec =
+    tie.close (tie.spec cast-result add-result returns cast-result-2 add-result-2 returns-2)
