@@ -1,5 +1,6 @@
-// Times the whole layout of the port and of the Rust on the same inputs, in one run, and prints port over Rust.
-// Each workload is run in rounds, the two sides in turn; the figure is the median of the rounds' ratios.
+// Times layouts and clusterings of the port and of the Rust on the same inputs, in one run, and prints port over Rust.
+// With cfg `before` the library of an earlier commit is linked too, its calls' names beginning with `before_`, and port over that is printed.
+// Each workload is run in rounds, the sides in turn; a figure is the median of the rounds' ratios.
 #[path = "../target/bench/eunoia_at_1.618.rs"]
 mod eunoia;
 #[path = "../target/bench/eunoia_at_0.5.rs"]
@@ -33,21 +34,66 @@ struct Length {
     value: f64,
 }
 
-#[link(name = "rundhefja", kind = "static")]
-unsafe extern "C" {
-    fn rundhefja_layout(
-        circles: *mut Record,
-        circles_len: usize,
-        factor: f64,
-        masks: *const u64,
-        masks_len: usize,
-        areas: *const f64,
-        areas_len: usize,
-        proportion: f64,
-    ) -> Answer;
-    safe fn rundhefja_root(x: f64) -> Length;
+#[repr(C)]
+struct Clusters {
+    refusal: u8,
+    count: usize,
+    numbers: [u8; 64],
 }
 
+type Layout = unsafe extern "C" fn(*mut Record, usize, f64, *const u64, usize, *const f64, usize, f64) -> Answer;
+type AreaClusters = unsafe extern "C" fn(usize, *const u64, usize, *const f64, usize, f64) -> Clusters;
+type PlainClusters = unsafe extern "C" fn(*const Record, usize) -> Clusters;
+type Root = unsafe extern "C" fn(f64) -> Length;
+
+// The calls of one library.
+struct Library {
+    layout: Layout,
+    area_clusters: AreaClusters,
+    clusters: PlainClusters,
+    root: Root,
+}
+
+macro_rules! library {
+    ($link:literal, $layout:ident, $area_clusters:ident, $clusters:ident, $root:ident) => {{
+        #[link(name = $link, kind = "static")]
+        unsafe extern "C" {
+            fn $layout(
+                circles: *mut Record,
+                circles_len: usize,
+                factor: f64,
+                masks: *const u64,
+                masks_len: usize,
+                areas: *const f64,
+                areas_len: usize,
+                proportion: f64,
+            ) -> Answer;
+            fn $area_clusters(n: usize, masks: *const u64, masks_len: usize, areas: *const f64, areas_len: usize, tolerance: f64) -> Clusters;
+            fn $clusters(circles: *const Record, circles_len: usize) -> Clusters;
+            fn $root(x: f64) -> Length;
+        }
+        Library { layout: $layout, area_clusters: $area_clusters, clusters: $clusters, root: $root }
+    }};
+}
+
+fn now() -> Library {
+    library!("rundhefja", rundhefja_layout, rundhefja_area_clusters, rundhefja_clusters, rundhefja_root)
+}
+
+fn before() -> Option<Library> {
+    #[cfg(before)]
+    return Some(library!("before", before_rundhefja_layout, before_rundhefja_area_clusters, before_rundhefja_clusters, before_rundhefja_root));
+    #[cfg(not(before))]
+    return None;
+}
+
+#[derive(Clone, Copy)]
+enum By {
+    Regions,
+    Circles,
+}
+
+#[derive(Clone)]
 struct Card {
     factor: f64,
     proportion: f64,
@@ -70,10 +116,10 @@ impl Card {
             areas: regions.iter().map(|r| r.1).collect(),
         }
     }
-    fn port(&self) -> Vec<Record> {
+    fn port(&self, library: &Library) -> Vec<Record> {
         let mut circles = self.circles.clone();
         let answer = unsafe {
-            rundhefja_layout(
+            (library.layout)(
                 circles.as_mut_ptr(),
                 circles.len(),
                 self.factor,
@@ -94,6 +140,17 @@ impl Card {
         let mut shapes: Vec<S> = self.circles.iter().map(|c| S::of(c.x, c.y, c.radius)).collect();
         S::lay_out(&mut shapes, self.factor, areas);
         shapes
+    }
+    // the cluster of each circle, by regions or by how the circles lie
+    fn grouped(&self, by: By, library: &Library) -> [u8; 64] {
+        let (circles, masks, areas) = (&self.circles, &self.masks, &self.areas);
+        let answer = match by {
+            By::Regions => unsafe { (library.area_clusters)(circles.len(), masks.as_ptr(), masks.len(), areas.as_ptr(), areas.len(), 0.0) },
+            By::Circles => unsafe { (library.clusters)(circles.as_ptr(), circles.len()) },
+        };
+        assert_eq!(answer.refusal, 0);
+        black_box(answer.count);
+        answer.numbers
     }
     fn at<S: Shape>(self) -> Card {
         Card { proportion: S::CONSTANT, ..self }
@@ -201,21 +258,29 @@ fn median(mut values: Vec<f64>) -> f64 {
 
 const ROUNDS: usize = 31;
 
-// Times both sides over and over, in turn, and prints microseconds a call and the ratio.
-fn report(name: &str, calls: usize, mut port: impl FnMut(), mut rust: impl FnMut()) {
-    let (mut ours, mut theirs, mut ratios) = (Vec::new(), Vec::new(), Vec::new());
-    for _ in 0..ROUNDS {
-        let start = Instant::now();
-        port();
-        let a = start.elapsed().as_secs_f64();
-        let start = Instant::now();
-        rust();
-        let b = start.elapsed().as_secs_f64();
-        ours.push(a * 1e6 / calls as f64);
-        theirs.push(b * 1e6 / calls as f64);
-        ratios.push(a / b);
+// Times the sides over and over, in turn, and prints microseconds a call and the ratios: the port over the library before it, if there is one, and over the Rust.
+fn report(name: &str, calls: usize, port: impl Fn(&Library), rust: impl Fn()) {
+    let (now, before) = (now(), before());
+    let mut sides: Vec<(&str, Box<dyn Fn() + '_>)> = vec![("port", Box::new(|| port(&now)))];
+    if let Some(before) = &before {
+        sides.push(("before", Box::new(|| port(before))));
     }
-    println!("{name:<44} port {:9.4} us, Rust {:9.4} us, ratio {:.2}", median(ours), median(theirs), median(ratios));
+    sides.push(("Rust", Box::new(&rust)));
+    let mut times = vec![Vec::new(); sides.len()];
+    for _ in 0..ROUNDS {
+        for ((_, side), times) in sides.iter().zip(&mut times) {
+            let start = Instant::now();
+            side();
+            times.push(start.elapsed().as_secs_f64() * 1e6 / calls as f64);
+        }
+    }
+    let figures: Vec<String> = sides.iter().zip(&times).map(|((side, _), times)| format!("{side} {:9.4} us", median(times.clone()))).collect();
+    let ratios: Vec<String> = sides[1..]
+        .iter()
+        .zip(&times[1..])
+        .map(|((side, _), theirs)| format!("over {side} {:.3}", median(times[0].iter().zip(theirs).map(|(a, b)| a / b).collect())))
+        .collect();
+    println!("{name:<44} {}, {}", figures.join(", "), ratios.join(", "));
 }
 
 fn layouts(name: &str, cards: Vec<Card>, repeats: usize) {
@@ -225,18 +290,48 @@ fn layouts(name: &str, cards: Vec<Card>, repeats: usize) {
 fn layouts_at<S: Shape>(name: &str, cards: Vec<Card>, repeats: usize) {
     let cards: Vec<_> = cards.into_iter().map(Card::at::<S>).collect();
     let maps: Vec<_> = cards.iter().map(Card::areas_of).collect();
-    for (card, map) in cards.iter().zip(&maps) {
-        let theirs: Vec<_> = card.rust::<S>(map).iter().map(S::numbers).collect();
-        let placed = card.port();
-        let ours: Vec<_> = placed.iter().map(|c| [c.x, c.y, c.radius]).collect();
-        assert_eq!(ours, theirs, "{name}: the answers differ");
-        assert!(placed.iter().map(|c| c.ink).eq(card.circles.iter().map(|c| c.ink)), "{name}: the inks differ");
+    for library in [Some(now()), before()].iter().flatten() {
+        for (card, map) in cards.iter().zip(&maps) {
+            let theirs: Vec<_> = card.rust::<S>(map).iter().map(S::numbers).collect();
+            let placed = card.port(library);
+            let ours: Vec<_> = placed.iter().map(|c| [c.x, c.y, c.radius]).collect();
+            assert_eq!(ours, theirs, "{name}: the answers differ");
+            assert!(placed.iter().map(|c| c.ink).eq(card.circles.iter().map(|c| c.ink)), "{name}: the inks differ");
+        }
     }
     report(
         name,
         repeats * cards.len(),
-        || (0..repeats).for_each(|_| cards.iter().for_each(|c| drop(black_box(c.port())))),
+        |library| (0..repeats).for_each(|_| cards.iter().for_each(|c| drop(black_box(c.port(library))))),
         || (0..repeats).for_each(|_| cards.iter().zip(&maps).for_each(|(c, m)| drop(black_box(c.rust::<S>(m))))),
+    );
+}
+
+// 64 circles that are linked by these masks.
+fn linked(masks: &[u64]) -> Card {
+    let regions: Vec<(u64, f64)> = masks.iter().map(|m| (*m, 1.0)).collect();
+    Card::new(&[[0.0, 0.0, 1.0]; 64], &regions)
+}
+
+// The clustering alone: links, closure and numbers.
+fn clusterings(name: &str, by: By, card: Card, repeats: usize) {
+    let map = card.areas_of();
+    let shapes: Vec<_> = card.circles.iter().map(|c| eunoia::Circle::of(c.x, c.y, c.radius)).collect();
+    let rust = || match by {
+        By::Regions => eunoia::find_clusters_from_exclusive_regions(shapes.len(), &map, 0.0),
+        By::Circles => eunoia::find_clusters(&shapes),
+    };
+    for library in [Some(now()), before()].iter().flatten() {
+        let numbers = card.grouped(by, library);
+        for (number, cluster) in rust().iter().enumerate() {
+            assert!(cluster.iter().all(|i| numbers[*i] as usize == number), "{name}: the answers differ");
+        }
+    }
+    report(
+        name,
+        repeats,
+        |library| (0..repeats).for_each(|_| { black_box(black_box(&card).grouped(by, library)); }),
+        || (0..repeats).for_each(|_| drop(black_box(rust()))),
     );
 }
 
@@ -245,19 +340,27 @@ fn main() {
     layouts("64 circles in many clusters", (0..4).map(|_| many_clusters(random)).collect(), 50);
     let again = &mut Random(2026);
     layouts_at::<eunoia_at_half::Circle>("the same at 1/2, in taller grids", (0..4).map(|_| many_clusters(again)).collect(), 50);
-    layouts("64 circles in one cluster, 2,048 regions", (0..2).map(|_| one_cluster(random)).collect(), 20);
+    let one_clusters: Vec<_> = (0..2).map(|_| one_cluster(random)).collect();
+    layouts("64 circles in one cluster, 2,048 regions", one_clusters.clone(), 20);
     layouts("32 parents with a child each", (0..4).map(|_| parents(random)).collect(), 10);
     layouts("small cards, 2 to 6 circles", (0..100).map(|_| small(random)).collect(), 20);
     for n in [2, 3, 4, 6, 16, 64] {
         layouts(&format!("{n} circles"), (0..20).map(|_| mixed(random, n)).collect(), 400 / n);
     }
+    clusterings("clustering: 64 circles in one chain", By::Regions, linked(&(0..63).map(|i| 3u64 << i).collect::<Vec<_>>()), 200);
+    clusterings("clustering: 64 circles in one clique", By::Regions, linked(&[u64::MAX]), 200);
+    clusterings("clustering: 64 circles in 32 pairs", By::Regions, linked(&(0..32).map(|i| 3u64 << (2 * i)).collect::<Vec<_>>()), 200);
+    clusterings("clustering: 64 circles, no link", By::Regions, linked(&[]), 200);
+    clusterings("clustering: 64 circles, 2,048 regions", By::Regions, one_clusters[0].clone(), 20);
+    clusterings("clustering by circles: 64 here and there", By::Circles, many_clusters(random), 50);
+    clusterings("clustering by circles: 64 in one place", By::Circles, linked(&[]), 50);
     let numbers: Vec<f64> = (0..100_000).map(|_| random.unit() * 1e6).collect();
     report(
         "the root alone",
         numbers.len(),
-        || {
+        |library| {
             for &x in &numbers {
-                black_box(rundhefja_root(black_box(x)));
+                black_box(unsafe { (library.root)(black_box(x)) });
             }
         },
         || {

@@ -173,6 +173,18 @@ impl Random {
             _ => 1.0 + 3.0 * self.unit(),
         }
     }
+    // Two-circle masks, rising, that link all 64 circles in long chains, in any order of theirs: what is joined is found over many links, and, where there
+    // are fewer circles, a chain is broken by each that is not there.
+    fn chains(&mut self) -> Vec<u64> {
+        let mut order: Vec<u64> = (0..64).collect();
+        for i in 1..64 {
+            order.swap(i, self.below(i as u64 + 1) as usize);
+        }
+        let cut = self.pick(&[2u64, 8, 64]);
+        let mut masks: Vec<u64> = order.windows(2).filter_map(|p| (self.below(cut) > 0).then_some(1 << p[0] | 1 << p[1])).collect();
+        masks.sort_unstable();
+        masks
+    }
     // Masks that rise strictly; sometimes one is repeated or out of order.
     fn masks(&mut self, n: u64, m: usize, wild: u64) -> Vec<u64> {
         let wide = self.below(4) == 0;
@@ -392,12 +404,19 @@ fn circles_record(random: &mut Random, record: &mut Record) {
     grouped(record, refusal, &if refusal == 0 { find_clusters(&shapes) } else { vec![] });
 }
 
-fn areas_record(random: &mut Random, record: &mut Record) {
-    let n = random.pick(&[0u64, 1, 2, 3, 4, 5, 8, 13, 40, 63, 64, 65, 70, 255]);
+fn areas_record(random: &mut Random, record: &mut Record, small: bool) {
+    let chains = random.below(8) == 0;
+    let n = if chains { random.pick(&[13, 40, 63, 64, 64, 64]) } else { random.pick(&[0u64, 1, 2, 3, 4, 5, 8, 13, 40, 63, 64, 65, 70, 255]) };
     let m = random.pick(&[0usize, 1, 1, 2, 3, 4, 6, 10, 30, 100]);
-    let m = if random.below(200) == 0 { random.pick(&[2047, 2048, 2049, 2060]) } else { m };
-    let masks: Vec<u64> = if m > 1000 { (0..m as u64).map(|k| k * 0x0040_0801_0020_0401).collect() } else { random.masks(n, m, 8) };
-    let mut areas: Vec<f64> = masks.iter().map(|_| random.area()).collect();
+    let m = if !small && random.below(200) == 0 { random.pick(&[2047, 2048, 2049, 2060]) } else { m };
+    let masks: Vec<u64> = if m > 1000 {
+        (0..m as u64).map(|k| k * 0x0040_0801_0020_0401).collect()
+    } else if chains {
+        random.chains()
+    } else {
+        random.masks(n, m, 8)
+    };
+    let mut areas: Vec<f64> = masks.iter().map(|_| if chains && random.below(32) > 0 { 1.0 } else { random.area() }).collect();
     if random.below(20) == 0 {
         areas.push(1.0);
     }
@@ -676,7 +695,7 @@ fn write_random(words: &[String], out: &mut impl Write) {
             2 => pair_record(&mut random, &mut record),
             3 => point_record(&mut random, &mut record),
             4 => circles_record(&mut random, &mut record),
-            5 => areas_record(&mut random, &mut record),
+            5 => areas_record(&mut random, &mut record, asked("small")),
             6 => boxes_record(&mut random, &mut record),
             7 => {
                 let k = random.below(70);

@@ -1,7 +1,10 @@
 pub mod Finite
 pub mod Table
+pub mod Packing
 pub mod Linking
-pub mod NextBits
+pub mod Places
+pub mod Rows
+pub mod Growing
 pub mod Numbering
 pub mod AreaClusters
 pub mod PlainClusters

@@ -1,12 +1,13 @@
 -- The table of links: the diagonal circle by circle, then the regions one by one, or the circles row by row.
-use Prim.Native.Nat.{ℕ, _+_, _≤_, _<_}
+use Prim.Native.Nat.{ℕ, _+_, _^_, _≤_, _<_}
 use native.Mathlib.Omega.{arith}
 use native.Mathlib.Numerals.{add-one}
 use native.Mathlib.Decide.{decLt, ℕ-discrete}
 use mathlib.Core.Path.{_≡_, refl, sym, _∙_, subst}
 use mathlib.Core.Bool.{Bool, true, false, not, _&&_, _||_, or-assoc, or-false, and-false, and-true}
 use mathlib.Core.List.{List, [], _∷_}
-use lib.ListN.{length, getD, take}
+use lib.Bits.{bitAnd}
+use lib.ListN.{length, getD, set, take}
 use lib.Seq.{take-suc, take-all}
 use lib.Dec.{eqb, ltb}
 use lib.Ieee.{Float, nan}
@@ -16,12 +17,15 @@ use Rattle.scope.specs.Numbers.{_≤ᶠ_}
 use Rattle.scope.specs.Runs.{bit}
 use Rattle.shapes.specs.declared.circle.Circle.{Circle}
 use Rattle.scope.specs.Links.{Region, regions, counts, share, linkedByRegions, circle}
+use Rattle.laws.proofs.Cases.{ltb-more}
+use Rattle.laws.proofs.PackedRows.{bit-common, bit-single}
 use Rattle.laws.proofs.Regions.{length-regions, getD-regions}
 use Rattle.laws.proofs.OneMoreRegion.{share-append}
 use Rattle.laws.proofs.Overlap.{overlap-swapped}
 use Rattle.laws.proofs.Clusters.{meet}
-use Rattle.clustering.specs.Table.{cell, mark, Shows}
+use Rattle.clustering.specs.Table.{cell, mark, Shows, Holds}
 use Rattle.clustering.proofs.Table.{shows-same, put, shows-put, along, down}
+use Rattle.clustering.proofs.Rows.{holds-same, holds-set}
 
 -- ---- each circle linked to itself, as far as circle i
 abbrev pub diagonal : ℕ → ℕ → ℕ → Bool
@@ -49,6 +53,26 @@ diagonal-step n i hi s =
 pub diagonal-end : (n i : ℕ) {m : List (List ℕ)} → n ≤ i → Shows n m (diagonal i) → Shows n m eqb
 diagonal-end n i h s = shows-same eqb (λ a b ha hb. rw (lt-ltb a i (omega arith)) (and-true (eqb a b))) s
 
+-- the same in packed rows
+pub selves-start : (n : ℕ) {rows : List ℕ} → Holds n rows (λ a b. false) → Holds n rows (diagonal 0)
+selves-start n s = holds-same (diagonal 0) (λ a b ha hb. rw (le-ltb a 0 (omega arith), and-false (eqb a b))) s
+
+only-self : (n i j : ℕ) → i < n → eqb i j ≡ (ltb j n && eqb i j)
+only-self n i j hi = elim (ℕ-discrete i j) [
+  | yes e ↦ rw (← e, eq-eqb i i refl, lt-ltb i n hi)
+  | no f ↦ rw (ne-eqb i j f, and-false (ltb j n))
+]
+
+pub selves-step : (n i : ℕ) {rows : List ℕ} → i < n → Holds n rows (diagonal i) → Holds n (set rows i (2 ^ i)) (diagonal (i + 1))
+selves-step n i hi s =
+    holds-set i (2 ^ i) (diagonal (i + 1))
+    (λ h j. rw (bit-single i j, lt-ltb i (i + 1) (omega arith), and-true (eqb i j)) (only-self n i j hi))
+    (λ a b ha hb p. rw (ltb-more a i p))
+    s
+
+pub selves-end : (n i : ℕ) {rows : List ℕ} → n ≤ i → Holds n rows (diagonal i) → Holds n rows eqb
+selves-end n i h s = holds-same eqb (λ a b ha hb. rw (lt-ltb a i (omega arith)) (and-true (eqb a b))) s
+
 -- ---- the links of the first k regions
 
 abbrev region : List ℕ → List Float → ℕ → Region
@@ -60,9 +84,9 @@ noRegion = record { mask = 0; area = nan }
 abbrev pub firstLinks : Float → List ℕ → List Float → ℕ → ℕ → ℕ → Bool
 firstLinks tol ms xs k = linkedByRegions tol (take k (regions ms xs))
 
-pub no-links : (n : ℕ) (tol : Float) (ms : List ℕ) (xs : List Float) {m : List (List ℕ)} → Shows n m eqb → Shows n m (firstLinks tol ms xs 0)
+pub no-links : (n : ℕ) (tol : Float) (ms : List ℕ) (xs : List Float) {rows : List ℕ} → Holds n rows eqb → Holds n rows (firstLinks tol ms xs 0)
 unfolding linkedByRegions share
-no-links n tol ms xs s = shows-same (firstLinks tol ms xs 0) (λ a b ha hb. sym (or-false (eqb a b))) s
+no-links n tol ms xs s = holds-same (firstLinks tol ms xs 0) (λ a b ha hb. sym (or-false (eqb a b))) s
 
 module _ (tol : Float) (ms : List ℕ) (xs : List Float) (e : length ms ≡ length xs) (k : ℕ) (h : k < length ms) where
   next-links : (a b : ℕ) → firstLinks tol ms xs (k + 1) a b ≡ firstLinks tol ms xs k a b || (counts tol (region ms xs k) && (bit (getD ms k 0) a && bit (getD ms k 0) b))
@@ -74,24 +98,31 @@ module _ (tol : Float) (ms : List ℕ) (xs : List Float) (e : length ms ≡ leng
       rw (add-one, take-suc (regions ms xs) k noRegion g, getD-regions ms xs k 0 nan noRegion h (omega arith), share-append tol rs (region ms xs k ∷ []) a b, or-false both)
       (sym (or-assoc (eqb a b) (share tol rs a b) both))
 
-  pub links-taken : (n : ℕ) {m : List (List ℕ)} → (finite (getD xs k nan) && not (getD xs k nan ≤ᶠ tol)) ≡ true
-      → Shows n m (λ a b. firstLinks tol ms xs k a b || (bit (getD ms k 0) a && bit (getD ms k 0) b)) → Shows n m (firstLinks tol ms xs (k + 1))
+  pub links-taken : (n c : ℕ) {rows : List ℕ} → ((j : ℕ) → bit c j ≡ ltb j n) → (finite (getD xs k nan) && not (getD xs k nan ≤ᶠ tol)) ≡ true
+      → Holds n rows (λ a b. firstLinks tol ms xs k a b || (bit (bitAnd (getD ms k 0) c) a && bit (bitAnd (getD ms k 0) c) b)) → Holds n rows (firstLinks tol ms xs (k + 1))
   unfolding counts
-  links-taken n t s = shows-same (firstLinks tol ms xs (k + 1)) (λ a b ha hb. rw (next-links a b, t)) s
+  links-taken n c below t s = holds-same (firstLinks tol ms xs (k + 1)) (λ a b ha hb. rw (next-links a b, t, inside a ha, inside b hb)) s
+    where
+      inside : (a : ℕ) → a < n → bit (bitAnd (getD ms k 0) c) a ≡ bit (getD ms k 0) a
+      inside a h = bit-common (getD ms k 0) c a ∙ rw (below a, lt-ltb a n h) (and-true (bit (getD ms k 0) a))
 
-  pub links-left : (n : ℕ) {m : List (List ℕ)} → (finite (getD xs k nan) && not (getD xs k nan ≤ᶠ tol)) ≡ false
-      → Shows n m (firstLinks tol ms xs k) → Shows n m (firstLinks tol ms xs (k + 1))
+  pub links-left : (n : ℕ) {rows : List ℕ} → (finite (getD xs k nan) && not (getD xs k nan ≤ᶠ tol)) ≡ false
+      → Holds n rows (firstLinks tol ms xs k) → Holds n rows (firstLinks tol ms xs (k + 1))
   unfolding counts
-  links-left n t s = shows-same (firstLinks tol ms xs (k + 1)) (λ a b ha hb. rw (next-links a b, t, or-false (firstLinks tol ms xs k a b))) s
+  links-left n t s = holds-same (firstLinks tol ms xs (k + 1)) (λ a b ha hb. rw (next-links a b, t, or-false (firstLinks tol ms xs k a b))) s
 
-pub all-links : (n k : ℕ) (tol : Float) (ms : List ℕ) (xs : List Float) {m : List (List ℕ)} → length ms ≡ length xs → length ms ≤ k
-    → Shows n m (firstLinks tol ms xs k) → Shows n m (linkedByRegions tol (regions ms xs))
-all-links n k tol ms xs {m} e h s =
-    subst (λ (rs : List Region). Shows n m (linkedByRegions tol rs)) (take-all k (regions ms xs) (rw (length-regions ms xs e) h)) s
+pub all-links : (n k : ℕ) (tol : Float) (ms : List ℕ) (xs : List Float) {rows : List ℕ} → length ms ≡ length xs → length ms ≤ k
+    → Holds n rows (firstLinks tol ms xs k) → Holds n rows (linkedByRegions tol (regions ms xs))
+all-links n k tol ms xs {rows} e h s =
+    subst (λ (rs : List Region). Holds n rows (linkedByRegions tol rs)) (take-all k (regions ms xs) (rw (length-regions ms xs e) h)) s
+
+-- no circle past the first n is in a mask that has been cut
+pub cut-mask : (n c m j : ℕ) → ((i : ℕ) → bit c i ≡ ltb i n) → n ≤ j → bit (bitAnd m c) j ≡ false
+cut-mask n c m j below h = bit-common m c j ∙ rw (below j, le-ltb j n h) (and-false (bit m j))
 
 -- ---- links of circles, row by row
 
-test-of-mark : (b : Bool) → not (eqb (mark b) 0) ≡ b
+pub test-of-mark : (b : Bool) → not (eqb (mark b) 0) ≡ b
 test-of-mark true = refl
 test-of-mark false = refl
 

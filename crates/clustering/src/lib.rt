@@ -1,14 +1,15 @@
 // Which circles belong together: by the regions that they share, or by how they lie.
 // Circles stand in three lists of one length: their centres' x, their centres' y, their radii. Inks count for the refusal alone.
 ghost use mathlib.Core.Path.{_≡_};
-ghost use mathlib.Core.Bool.{Bool, false, not, _&&_, _||_};
+ghost use mathlib.Core.Bool.{Bool, false, not, cond, _&&_, _||_};
 ghost use mathlib.Core.List.{List};
 ghost use Prim.Native.Nat.{ℕ, _<_, _≤_};
-ghost use lib.Dec.{eqb};
+ghost use lib.Dec.{eqb, ltb};
 ghost use lib.Ieee.Scale.{finite};
 ghost use lib.ListN.{length};
 ghost use Rattle.scope.specs.Numbers.{_≤ᶠ_};
-ghost use Rattle.scope.specs.Runs.{bit, least};
+ghost use Rattle.scope.specs.Runs.{bit};
+ghost use Rattle.scope.specs.PackedRows.{packedRow};
 ghost use Rattle.scope.specs.Links.{regions, circle, overlap, linkedByRegions, linkedByCircles};
 ghost use Rattle.scope.specs.Tolerance.{tolerance};
 ghost use Rattle.scope.specs.Closure.{Marks, at, closure};
@@ -20,7 +21,7 @@ ghost use Rattle.intake.specs.Columns.{circlesOf};
 ghost use Rattle.intake.specs.CauseWords.{bareFront};
 ghost use Rattle.intake.specs.Firsts.{FirstFrom};
 ghost use Rattle.clustering.specs.Answers.{grouped, NumbersByChains, shownGrouping};
-ghost use Rattle.clustering.specs.Table.{Row, Shows};
+ghost use Rattle.clustering.specs.Table.{Shows, Holds, closedTo, Given};
 use geometry::lengths::absolute;
 use geometry::lengths::apart;
 use geometry::lengths::meets;
@@ -45,6 +46,9 @@ pub struct Clusters {
 
 // A mark for each pair of circles.
 type Table = [[u8; MAX_CIRCLES]; MAX_CIRCLES];
+
+// The same, packed: place j of row i is bit j of word i.
+type Rows = [u64; MAX_CIRCLES];
 
 // Circles of one region belong together, unless its area is not finite or at most the tolerance. Any tolerance will do, a NaN too.
 // Refused: too many circles (1), lists of unequal length (13), too many regions (2), masks that do not rise (5).
@@ -131,16 +135,19 @@ fn refused(number: u8) -> Clusters
     }
 }
 
-// ---- accepted: links, closure and numbers in turn, in one table
+// ---- accepted: links, closure and numbers in turn
 
+// A region's mask is a packed row, so the links are marked and closed in words, and the table is unpacked once.
 fn by_regions(n: usize, masks: &[u64], areas: &[f64], tolerance: f64) -> Clusters
     requires { ⌜ (n ≤ maxCircles) × (length (now masks) ≡ length (now areas)) ⌝ }
     ensures { λ r. ⌜ grouped r ≡ grouping 0 (clusters n (regions (now (masks .entry)) (now (areas .entry))) tolerance) ⌝ }
 {
+    let mut rows = [0u64; MAX_CIRCLES];
+    hold_selves(&mut rows, n);
+    hold_regions(&mut rows, n, masks, areas, tolerance);
+    close_rows(&mut rows, n);
     let mut m = [[0u8; MAX_CIRCLES]; MAX_CIRCLES];
-    link_selves(&mut m, n);
-    link_regions(&mut m, n, masks, areas, tolerance);
-    close(&mut m, n);
+    unpack(&mut m, &rows, n);
     numbered(&m, n)
 }
 
@@ -163,7 +170,7 @@ fn by_circles(xs: &[f64], ys: &[f64], radii: &[f64]) -> Clusters
     numbered(&m, n)
 }
 
-// ---- links
+// ---- links in the table
 
 // Links each circle to itself, in a table of zeros.
 fn link_selves(m: &mut Table, n: usize)
@@ -174,19 +181,6 @@ fn link_selves(m: &mut Table, n: usize)
     while i < n {
         m[i][i] = 1;
         i += 1;
-    }
-}
-
-fn link_regions(m: &mut Table, n: usize, masks: &[u64], areas: &[f64], tolerance: f64)
-    requires { ⌜ (n ≤ maxCircles) × (length (now masks) ≡ length (now areas)) × Shows n (now m) eqb ⌝ }
-    ensures { λ _. ⌜ Shows n (now (m .exit)) (linkedByRegions tolerance (regions (now (masks .entry)) (now (areas .entry)))) ⌝ }
-{
-    let mut k: usize = 0;
-    while k < masks.len() {
-        if exceeds(areas[k], tolerance) {
-            link(m, n, masks[k]);
-        }
-        k += 1;
     }
 }
 
@@ -216,70 +210,6 @@ fn link_circles(m: &mut Table, xs: &[f64], ys: &[f64], radii: &[f64])
     }
 }
 
-// Links the circles of a region with each other.
-fn link(m: &mut Table, n: usize, mask: u64)
-    requires { ⌜ n ≤ maxCircles ⌝ }
-    ensures { λ _. ⌜ ((f : ℕ → ℕ → Bool) → Shows n (now (m .entry)) f → Shows n (now (m .exit)) (λ i j. f i j || (bit mask i && bit mask j))) ⌝ }
-{
-    let row = row_of(mask);
-    let mut i = next_of(mask, 0);
-    while i < n {
-        join(m, i, &row);
-        i = next_of(mask, i + 1);
-    }
-}
-
-// A mark for each circle that the region holds.
-fn row_of(mask: u64) -> [u8; MAX_CIRCLES]
-    ensures { λ r. ⌜ Row maxCircles r (bit mask) ⌝ }
-{
-    let mut row = [0u8; MAX_CIRCLES];
-    let mut j = next_of(mask, 0);
-    while j < MAX_CIRCLES {
-        row[j] = 1;
-        j = next_of(mask, j + 1);
-    }
-    row
-}
-
-// The first circle of a mask at or past a place, 64 if there is none.
-fn next_of(mask: u64, from: usize) -> usize
-    requires { ⌜ from ≤ maxCircles ⌝ }
-    ensures { λ r. ⌜ FirstFrom (bit mask) from maxCircles r ⌝ }
-{
-    if from >= 64 {
-        return 64;
-    }
-    let rest = mask >> from;
-    if rest == 0 {
-        return 64;
-    }
-    from + u64::trailing_zeros(rest) as usize
-}
-
-// Joins a row of marks to row i, past column n too, where nothing is looked at: so it is a few wide operations.
-fn join(m: &mut Table, i: usize, row: &[u8; MAX_CIRCLES])
-    requires { ⌜ i < maxCircles ⌝ }
-    ensures { λ _. ⌜ ((n : ℕ) (f : ℕ → ℕ → Bool) (p : ℕ → Bool) → n ≤ maxCircles → i < n → Row n (now (row .entry)) p
-        → Shows n (now (m .entry)) f → Shows n (now (m .exit)) (λ a b. f a b || (eqb a i && p b))) ⌝ }
-{
-    let mut j: usize = 0;
-    while j < MAX_CIRCLES {
-        m[i][j] = m[i][j] | row[j];
-        j += 1;
-    }
-}
-
-// Finite and not at most the tolerance. An infinity or a NaN less itself is a NaN.
-fn exceeds(area: f64, tolerance: f64) -> bool
-    ensures { λ r. ⌜ r ≡ (finite area && not (area ≤ᶠ tolerance)) ⌝ }
-{
-    if area - area == 0.0 {
-        return !(area <= tolerance);
-    }
-    false
-}
-
 // ---- two circles
 
 // The circle at a place of the lists. No step looks at its ink.
@@ -305,41 +235,219 @@ fn overlap(a: Circle, b: Circle) -> bool
     )
 }
 
-// ---- closure and numbers
+// ---- links in packed rows
 
-// Warshall's closure of the first n rows and columns, in place. Row k does not change while it is joined to the others, so a copy of it will do.
-fn close(m: &mut Table, n: usize)
-    requires { ⌜ n ≤ maxCircles ⌝ }
-    ensures { λ _. ⌜ ((t : Marks) → Shows n (now (m .entry)) (at t) → Shows n (now (m .exit)) (at (closure n t))) ⌝ }
+// Links each circle to itself, in rows of zeros.
+fn hold_selves(rows: &mut Rows, n: usize)
+    requires { ⌜ (n ≤ maxCircles) × Holds n (now rows) (λ i j. false) ⌝ }
+    ensures { λ _. ⌜ Holds n (now (rows .exit)) eqb ⌝ }
 {
+    let mut i: usize = 0;
+    while i < n {
+        rows[i] = 1u64 << i;
+        i += 1;
+    }
+}
+
+fn hold_regions(rows: &mut Rows, n: usize, masks: &[u64], areas: &[f64], tolerance: f64)
+    requires { ⌜ (n ≤ maxCircles) × (length (now masks) ≡ length (now areas)) × Holds n (now rows) eqb ⌝ }
+    ensures { λ _. ⌜ Holds n (now (rows .exit)) (linkedByRegions tolerance (regions (now (masks .entry)) (now (areas .entry)))) ⌝ }
+{
+    let circles = below(n);
     let mut k: usize = 0;
-    while k < n {
-        let row = m[k];
-        let mut i: usize = 0;
-        while i < n {
-            if m[i][k] != 0 {
-                join(m, i, &row);
-            }
-            i += 1;
+    while k < masks.len() {
+        if exceeds(areas[k], tolerance) {
+            hold(rows, masks[k] & circles);
         }
         k += 1;
     }
 }
 
-// Numbers the clusters by smallest member: a circle that is the first of its row begins a new one.
+// Links the circles of a mask with each other. It is a packed row, and is joined to the row of each of its circles.
+fn hold(rows: &mut Rows, mask: u64)
+    ensures { λ _. ⌜ ((n : ℕ) (f : ℕ → ℕ → Bool) → n ≤ maxCircles → Holds n (now (rows .entry)) f
+        → ((j : ℕ) → n ≤ j → bit mask j ≡ false) → Holds n (now (rows .exit)) (λ i j. f i j || (bit mask i && bit mask j))) ⌝ }
+{
+    let mut rest = mask;
+    while rest != 0 {
+        let i = first_of(rest);
+        rows[i] = rows[i] | mask;
+        rest = without_first(rest);
+    }
+}
+
+// Finite and not at most the tolerance. An infinity or a NaN less itself is a NaN.
+fn exceeds(area: f64, tolerance: f64) -> bool
+    ensures { λ r. ⌜ r ≡ (finite area && not (area ≤ᶠ tolerance)) ⌝ }
+{
+    if area - area == 0.0 {
+        return !(area <= tolerance);
+    }
+    false
+}
+
+// The row of all circles below n.
+fn below(n: usize) -> u64
+    requires { ⌜ n ≤ maxCircles ⌝ }
+    ensures { λ r. ⌜ ((j : ℕ) → bit r j ≡ ltb j n) ⌝ }
+{
+    if n < MAX_CIRCLES {
+        return (1u64 << n) - 1;
+    }
+    0xffff_ffff_ffff_ffff
+}
+
+// The first place of a row, 64 if it has none.
+fn first_of(row: u64) -> usize
+    ensures { λ r. ⌜ FirstFrom (bit row) 0 maxCircles r × ((row ≡ 0 → ⊥) → r < maxCircles) ⌝ }
+{
+    if row == 0 {
+        return MAX_CIRCLES;
+    }
+    u64::trailing_zeros(row) as usize
+}
+
+// A row without its first place.
+fn without_first(row: u64) -> u64
+    requires { ⌜ (row ≡ 0 → ⊥) ⌝ }
+    ensures { λ r. ⌜ (r < row) × ((i : ℕ) → FirstFrom (bit row) 0 maxCircles i → (j : ℕ) → bit r j ≡ (bit row j && not (eqb j i))) ⌝ }
+{
+    row & (row - 1)
+}
+
+// ---- closure
+
+// Closes the first n rows and columns of a table: packed once, closed in words, unpacked once.
+fn close(m: &mut Table, n: usize)
+    requires { ⌜ n ≤ maxCircles ⌝ }
+    ensures { λ _. ⌜ ((t : Marks) → Shows n (now (m .entry)) (at t) → Shows n (now (m .exit)) (at (closure n t))) ⌝ }
+{
+    let mut rows = [0u64; MAX_CIRCLES];
+    pack(&mut rows, m, n);
+    close_rows(&mut rows, n);
+    unpack(m, &rows, n);
+}
+
+// Warshall's closure, row by row: in the end a row that holds place k holds all that row k does.
+fn close_rows(rows: &mut Rows, n: usize)
+    requires { ⌜ n ≤ maxCircles ⌝ }
+    ensures { λ _. ⌜ ((t : Marks) → Holds n (now (rows .entry)) (at t) → Holds n (now (rows .exit)) (at (closure n t))) ⌝ }
+{
+    let mut i: usize = 0;
+    while i < n {
+        rows[i] = grown(rows, i);
+        i += 1;
+    }
+}
+
+// Row i with the rows of all places that it holds or comes to hold. The rows before it are closed already: what they hold need not be looked at again.
+fn grown(rows: &Rows, i: usize) -> u64
+    requires { ⌜ i < maxCircles ⌝ }
+    ensures { λ r. ⌜ ((n : ℕ) (t : Marks) → n ≤ maxCircles → i < n → Holds n (now (rows .entry)) (closedTo i n t)
+        → (j : ℕ) → bit r j ≡ (ltb j n && at (closure n t) i j)) ⌝ }
+{
+    let mut all = rows[i];
+    let mut joined = 1u64 << i;
+    let mut rest = other_than(all, joined);
+    while rest != 0 {
+        let k = first_of(rest);
+        let row = rows[k];
+        all = all | row;
+        joined = joined | (1u64 << k);
+        if k < i {
+            joined = joined | row;
+        }
+        rest = other_than(all, joined);
+    }
+    all
+}
+
+// The places of a row that are not in another.
+fn other_than(row: u64, other: u64) -> u64
+    ensures { λ r. ⌜ ((j : ℕ) → bit r j ≡ (bit row j && not (bit other j))) ⌝ }
+{
+    (row | other) ^ other
+}
+
+// Packs the first n marks of each row into a word, place j at bit j.
+fn pack(rows: &mut Rows, m: &Table, n: usize)
+    requires { ⌜ (n ≤ maxCircles) × (length (now rows) ≡ maxCircles) ⌝ }
+    ensures { λ _. ⌜ ((f : ℕ → ℕ → Bool) → Shows n (now (m .entry)) f → Holds n (now (rows .exit)) f) ⌝ }
+{
+    let mut i: usize = 0;
+    while i < n {
+        rows[i] = packed(m, n, i);
+        i += 1;
+    }
+}
+
+fn packed(m: &Table, n: usize, i: usize) -> u64
+    requires { ⌜ (n ≤ maxCircles) × (i < maxCircles) ⌝ }
+    ensures { λ r. ⌜ ((f : ℕ → ℕ → Bool) → i < n → Shows n (now (m .entry)) f → r ≡ packedRow n (f i)) ⌝ }
+{
+    let mut row: u64 = 0;
+    let mut j: usize = 0;
+    while j < n {
+        row = row | (wide(m[i][j]) << j);
+        j += 1;
+    }
+    row
+}
+
+fn wide(x: u8) -> u64
+    ensures { λ r. ⌜ r ≡ x ⌝ }
+{
+    x as u64
+}
+
+// Unpacks the first n rows: a mark is 1 where the row holds the place and 0 elsewhere. A row that is the same as that of its first circle is copied from
+// there, unless that one was written just before.
+fn unpack(m: &mut Table, rows: &Rows, n: usize)
+    requires { ⌜ n ≤ maxCircles ⌝ }
+    ensures { λ _. ⌜ ((f g : ℕ → ℕ → Bool) → Holds n (now (rows .entry)) f → Shows n (now (m .entry)) g → Shows n (now (m .exit)) f) ⌝ }
+{
+    let mut i: usize = 0;
+    while i < n {
+        let row = rows[i];
+        let first = first_of(row);
+        if first + 1 < i && rows[first] == row {
+            let marks = m[first];
+            m[i] = marks;
+        } else {
+            unpack_row(m, i, row);
+        }
+        i += 1;
+    }
+}
+
+fn unpack_row(m: &mut Table, i: usize, row: u64)
+    requires { ⌜ i < maxCircles ⌝ }
+    ensures { λ _. ⌜ ((n : ℕ) (f : ℕ → ℕ → Bool) → n ≤ maxCircles → Shows n (now (m .entry)) f
+        → Shows n (now (m .exit)) (λ a b. cond (eqb a i) (bit row b) (f a b))) ⌝ }
+{
+    m[i] = [0u8; MAX_CIRCLES];
+    let mut rest = row;
+    while rest != 0 {
+        let j = first_of(rest);
+        m[i][j] = 1;
+        rest = without_first(rest);
+    }
+}
+
+// ---- numbers
+
+// Numbers the clusters by smallest member: a circle that has no number yet is the smallest of the next cluster.
 fn numbered(m: &Table, n: usize) -> Clusters
     requires { ⌜ n ≤ maxCircles ⌝ }
     ensures { λ r. ⌜ ((t : Marks) → Shows n (now (m .entry)) (at t) → Equivalence n t → grouped r ≡ grouping 0 (clustersOf n t)) ⌝ }
 {
     let mut count: usize = 0;
     let mut numbers = [0u8; MAX_CIRCLES];
+    let mut seen = [0u8; MAX_CIRCLES];
     let mut i: usize = 0;
     while i < n {
-        let first = first_marked(m, n, i);
-        if first < i {
-            numbers[i] = numbers[first];
-        } else {
-            numbers[i] = count as u8;
+        if seen[i] == 0 {
+            give(&mut numbers, &mut seen, m, n, i, count as u8);
             count += 1;
         }
         i += 1;
@@ -351,17 +459,26 @@ fn numbered(m: &Table, n: usize) -> Clusters
     }
 }
 
-// The first circle marked in row i, or n.
-fn first_marked(m: &Table, n: usize, i: usize) -> usize
+// Gives a number to the circles that are marked in row i. Every place is read and written, so that it is a few wide operations.
+fn give(
+    numbers: &mut [u8; MAX_CIRCLES],
+    seen: &mut [u8; MAX_CIRCLES],
+    m: &Table,
+    n: usize,
+    i: usize,
+    number: u8,
+)
     requires { ⌜ (n ≤ maxCircles) × (i < n) ⌝ }
-    ensures { λ r. ⌜ ((f : ℕ → ℕ → Bool) → Shows n (now (m .entry)) f → r ≡ least n (f i)) ⌝ }
+    ensures { λ _. ⌜ ((f : ℕ → ℕ → Bool) → Shows n (now (m .entry)) f
+        → Given n (f i) number (now (numbers .entry)) (now (numbers .exit)) × Given n (f i) 1 (now (seen .entry)) (now (seen .exit))) ⌝ }
 {
     let mut j: usize = 0;
     while j < n {
-        if m[i][j] != 0 {
-            return j;
-        }
+        let marked = m[i][j] != 0;
+        let was = numbers[j];
+        let had = seen[j];
+        numbers[j] = if marked { number } else { was };
+        seen[j] = if marked { 1 } else { had };
         j += 1;
     }
-    n
 }

@@ -8,39 +8,16 @@ use lib.Bits.{bitOr}
 use lib.Dec.{T, eqb, ltb, ltb→lt}
 use lib.ListN.{getD, length, drop}
 use lib.Seq.{drop-cons}
-use lib.Pow.{pow-pos}
 use Rattle.algebra.proofs.Table.{every, at}
 use Rattle.scope.specs.Runs.{bit}
 use Rattle.scope.specs.Refusals.{causes, Checks, causeHolds, first, refusal}
-use Rattle.laws.proofs.Cases.{tested, is-true, is-false, eqb-iff}
-use Rattle.laws.proofs.MaskBits.{bit-of-union, union-left, union-right, bit-of-power, power-has-one-bit, bit-past}
+use Rattle.laws.proofs.PackedRows.{bit-none, bit-single, bit-joined}
 use Rattle.intake.specs.CauseWords.{Says}
-
--- ---- bits as truth values
-bit-or : (a b k : ℕ) → bit (bitOr a b) k ≡ bit a k || bit b k
-bit-or a b k =
-    elim (tested (bit a k)) [
-      | yes t ↦ is-true _ (union-left a b k t) ∙ rw (is-true (bit a k) t)
-      | no f ↦ rw (is-false (bit a k) f) (elim (tested (bit b k)) [
-        | yes t ↦ is-true _ (union-right a b k t) ∙ sym (is-true (bit b k) t)
-        | no g ↦ is-false _ (λ u. g (bit-of-union a b k u f)) ∙ sym (is-false (bit b k) g)
-      ])
-    ]
-
-bit-power : (j k : ℕ) → bit (2 ^ j) k ≡ eqb j k
-bit-power j k =
-    elim (tested (eqb j k)) [
-      | yes t ↦ rw (← eqb-iff j k .0 t) (is-true _ (bit-of-power j)) ∙ sym (is-true (eqb j k) t)
-      | no f ↦ is-false _ (λ u. f (eqb-iff j k .1 (power-has-one-bit j k u))) ∙ sym (is-false (eqb j k) f)
-    ]
-
-bit-none : (k : ℕ) → bit 0 k ≡ false
-bit-none k = is-false (bit 0 k) (bit-past 0 k (pow-pos k))
 
 -- ---- one cause
 pub one-cause : (j : ℕ) (b : Bool) {w : ℕ} → w ≡ cond b (2 ^ j) 0 → Says w ((j, b) ∷ [])
 unfolding causeHolds
-one-cause j true e k = rw e (bit-power j k ∙ sym (or-false _ ∙ and-true (eqb j k)))
+one-cause j true e k = rw e (bit-single j k ∙ sym (or-false _ ∙ and-true (eqb j k)))
 one-cause j false e k = rw e (bit-none k ∙ sym (or-false _ ∙ and-false (eqb j k)))
 
 -- by what the flag and the test behind it ensure
@@ -55,12 +32,12 @@ holds-append (c ∷ cs) ds k =
     ap (λ (b : Bool). (eqb (c .0) k && c .1) || b) (holds-append cs ds k) ∙ sym (or-assoc (eqb (c .0) k && c .1) (causeHolds cs k) (causeHolds ds k))
 
 pub joined : (w v : ℕ) (cs ds : Checks) → Says w cs → Says v ds → Says (bitOr w v) (cs ++ ds)
-joined w v cs ds p q k = bit-or w v k ∙ rw (p k, q k) (sym (holds-append cs ds k))
+joined w v cs ds p q k = bit-joined w v k ∙ rw (p k, q k) (sym (holds-append cs ds k))
 
 -- two words of one cause
 pub either-cause : (j : ℕ) (a b : Bool) (w v : ℕ) → Says w ((j, a) ∷ []) → Says v ((j, b) ∷ []) → Says (bitOr w v) ((j, a || b) ∷ [])
 unfolding causeHolds
-either-cause j a b w v p q k = bit-or w v k ∙ rw (p k, q k) (spread (eqb j k) a b)
+either-cause j a b w v p q k = bit-joined w v k ∙ rw (p k, q k) (spread (eqb j k) a b)
   where
     spread : (e a b : Bool) → ((e && a) || false) || ((e && b) || false) ≡ (e && (a || b)) || false
     spread true true b = refl
@@ -101,16 +78,15 @@ unfolding refusal first causeHolds causes
 layout-checks a b c d e f g h p = refl
 
 -- ---- the search for it, cause by cause
-small : ℕ → ℕ → Bool
+abbrev small : ℕ → ℕ → Bool
 small i k = ltb k 32
 
-every-small : T (every small 0 causes)
-unfolding small causes
-every-small = tt
+-- each is a bit of a word, in whatever order they are
+pub record Small (l : List ℕ) : Type 0 where
+  pub each : (i : ℕ) → i < length l → getD l i 0 < 32
 
-pub cause-small : (i : ℕ) → i < length causes → getD causes i 0 < 32
-unfolding small
-cause-small i h = ltb→lt (getD causes i 0) 32 (at small 0 causes every-small i h)
+pub all-small : (l : List ℕ) → T (every small 0 l) → Small l
+all-small l t = record { each = λ i h. ltb→lt (getD l i 0) 32 (at small 0 l t i h) }
 
 module _ (p : ℕ → Bool) (i : ℕ) (inside : i < length causes) where
   pub cause-found : first p (drop i causes) ≡ first p causes → p (getD causes i 0) ≡ true → getD causes i 0 ≡ first p causes

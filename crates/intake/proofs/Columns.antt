@@ -24,7 +24,7 @@ use Rattle.scope.specs.Centring.{allTranslated}
 use Rattle.laws.specs.Inks.{withInk, inked}
 use Rattle.laws.proofs.Accepted.{ink-at}
 use Rattle.laws.proofs.Inks.{length-inked, inked-at, inks-inked}
-use Rattle.laws.proofs.Cases.{or-iff}
+use Rattle.laws.proofs.Cases.{or-iff, same-test}
 use Rattle.laws.proofs.Runs.{length-tab, getD-tab, tab-equal, any-at}
 use Rattle.intake.specs.Limits.{maxCircles}
 use Rattle.intake.specs.Columns.{at, bareCircle, circlesOf, xsOf, ysOf, radiiOf, widthsOf, heightsOf, each, members, Lifted}
@@ -125,21 +125,17 @@ translated-shown xs ys rs dx dy e lifted =
     (λ i h. rw (shown-at xs ys rs i h, lifted i, getD-tab (length xs) (λ k. at xs k +ᶠ dx) i nan h, getD-tab (length ys) (λ k. at ys k +ᶠ dy) i nan (rw e h))))
 
 -- ---- tests of the circles, list by list
-same-truth : (a b : Bool) → (T a → T b) → (T b → T a) → a ≡ b
-same-truth true true f g = refl
-same-truth true false f g = absurd (f tt)
-same-truth false true f g = absurd (g tt)
-same-truth false false f g = refl
-
 -- what fails at the same places of two lists
 any-same : {A B : Type 0} (p : A → Bool) (q : B → Bool) (l : List A) (m : List B) (d : A) (e : B) → length l ≡ length m
     → ((i : ℕ) → i < length m → p (getD l i d) ≡ q (getD m i e)) → any p l ≡ any q m
 any-same p q l m d e long same =
-    same-truth _ _
-    (λ t. let f = any-at p l d .0 t in
-    let below : f .0 < length m = rw long at (f .1) in
-    any-at q m e .1 (f .0, below, rw (same (f .0) below) at (f .2)))
-    (λ t. let f = any-at q m e .0 t in any-at p l d .1 (f .0, rw long (f .1), rw (same (f .0) (f .1)) (f .2)))
+    same-test _ _ (
+      λ t.
+          let f = any-at p l d .0 t in
+          let below : f .0 < length m = rw long at (f .1) in
+          any-at q m e .1 (f .0, below, rw (same (f .0) below) at (f .2)),
+      λ t. let f = any-at q m e .0 t in any-at p l d .1 (f .0, rw long (f .1), rw (same (f .0) (f .1)) (f .2)),
+    )
 
 -- a test that does not look at the ink
 any-inked : (p : Circle → Bool) (blind : (k : ℕ) (c : Circle) → p (withInk k c) ≡ p c) (is : List ℕ) (cs : List Circle) → any p (inked is cs) ≡ any p cs
@@ -150,16 +146,18 @@ any-inked p blind is cs =
 pub any-either : {A : Type 0} (p : A → Bool) (q : Float → Bool) (l : List A) (d : A) (xs ys : List Float) → length l ≡ length xs → length ys ≡ length xs
     → ((i : ℕ) → i < length xs → p (getD l i d) ≡ q (at xs i) || q (at ys i)) → any p l ≡ any q xs || any q ys
 any-either p q l d xs ys e f same =
-    same-truth (any p l) (any q xs || any q ys)
-    (λ t. let g = any-at p l d .0 t in
-    let i = g .0 in
-    let below : i < length xs = rw e at (g .1) in
-    or-iff (any q xs) (any q ys) .1
-    (⊎-elim (λ u. inl (any-at q xs nan .1 (i, below, u))) (λ u. inr (any-at q ys nan .1 (i, rw f below, u))) (or-iff (q (at xs i)) (q (at ys i)) .0 (rw (same i below) at (g .2)))))
-    (λ t. ⊎-elim
-    (λ u. let g = any-at q xs nan .0 u in found (g .0) (g .1) (or-iff (q (at xs (g .0))) (q (at ys (g .0))) .1 (inl (g .2))))
-    (λ u. let g = any-at q ys nan .0 u in found (g .0) (rw f at (g .1)) (or-iff (q (at xs (g .0))) (q (at ys (g .0))) .1 (inr (g .2))))
-    (or-iff (any q xs) (any q ys) .0 t))
+    same-test (any p l) (any q xs || any q ys) (
+      λ t.
+          let g = any-at p l d .0 t in
+          let i = g .0 in
+          let below : i < length xs = rw e at (g .1) in
+          or-iff (any q xs) (any q ys) .1
+          (⊎-elim (λ u. inl (any-at q xs nan .1 (i, below, u))) (λ u. inr (any-at q ys nan .1 (i, rw f below, u))) (or-iff (q (at xs i)) (q (at ys i)) .0 (rw (same i below) at (g .2)))),
+      λ t. ⊎-elim
+          (λ u. let g = any-at q xs nan .0 u in found (g .0) (g .1) (or-iff (q (at xs (g .0))) (q (at ys (g .0))) .1 (inl (g .2))))
+          (λ u. let g = any-at q ys nan .0 u in found (g .0) (rw f at (g .1)) (or-iff (q (at xs (g .0))) (q (at ys (g .0))) .1 (inr (g .2))))
+          (or-iff (any q xs) (any q ys) .0 t),
+    )
   where
     found : (i : ℕ) → i < length xs → T (q (at xs i) || q (at ys i)) → T (any p l)
     found i h t = any-at p l d .1 (i, rw e h, rw (same i h) t)

@@ -1,9 +1,10 @@
 -- The zeros below the lowest set digit of a number of d digits.
-use Prim.Native.Nat.{ℕ, zero, suc, _*_, _/_, _%_, _^_, _≤_, _<_}
+use Prim.Native.Nat.{ℕ, zero, suc, _-_, _*_, _/_, _%_, _^_, _≤_, _<_}
 use native.Mathlib.Omega.{arith}
 use native.Mathlib.Nat.{div-one, div-div-eq-div-mul, pow-succ'}
 use mathlib.Core.Path.{_≡_, refl, sym, ap}
 use mathlib.Core.Logic.{_⊎_, inl, inr}
+use lib.Bits.{bitAnd, and-step, and-self}
 use lib.Count.{trailingZeros, under}
 
 digit : (n : ℕ) → (n % 2 ≡ 0) ⊎ (n % 2 ≡ 1)
@@ -40,6 +41,22 @@ set-above (suc d) n h l = elim (digit n) [
   where
     half : (p : ℕ) → n < 2 * p → n / 2 < p
     half p l = omega arith
+
+-- ---- a number and the one before it have the same digits above that one, and none in common up to it
+
+pub lowest-cleared : (d n : ℕ) → (n ≡ 0 → ⊥) → n < 2 ^ d → bitAnd n (n - 1) ≡ n - 2 ^ trailingZeros d n
+unfolding trailingZeros
+lowest-cleared zero n h l = absurd (h (omega arith))
+lowest-cleared (suc d) n h l = elim (digit n) [
+  | inl e ↦
+      let half : (n - 1) / 2 ≡ n / 2 - 1 = omega arith in
+      let odd : (n - 1) % 2 ≡ 1 = omega arith in
+      rw (e, and-step n (n - 1), half, odd, e, lowest-cleared d (n / 2) (λ z. h (omega arith)) (omega (arith, pow-succ' 2 d)), pow-succ' 2 (trailingZeros d (n / 2))) (omega arith)
+  | inr e ↦
+      let half : (n - 1) / 2 ≡ n / 2 = omega arith in
+      let even : (n - 1) % 2 ≡ 0 = omega arith in
+      rw (e, and-step n (n - 1), half, even, e, and-self (n / 2)) (omega arith)
+]
 
 -- ---- how many there are
 

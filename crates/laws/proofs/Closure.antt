@@ -1,14 +1,14 @@
 -- Warshall's closure is reachability, for any n and any relation: after the passes below k the marks are transitive through each place below k.
-use Prim.Native.Nat.{ℕ, zero, suc, _<_}
+use Prim.Native.Nat.{ℕ, zero, suc, _≤_, _<_}
 use native.Mathlib.Omega.{arith}
 use native.Mathlib.Decide.{decLt}
-use mathlib.Core.Path.{_≡_, refl, sym}
+use mathlib.Core.Path.{_≡_, refl, sym, _∙_}
 use mathlib.Core.Logic.{_↔_, _⊎_, inl, inr, ⊎-elim, Iff·rfl, Iff·trans}
-use mathlib.Core.Bool.{Bool, _||_}
+use mathlib.Core.Bool.{Bool, _&&_, _||_}
 use lib.Dec.{T, eqb}
 use Rattle.scope.specs.Closure.{Marks, marked, at, pass, passes, closure}
 use Rattle.laws.proofs.Cases.{or-iff, sum-iff, eqb-iff}
-use Rattle.laws.proofs.Marks.{marked-iff, pass-iff, passes-iff, pass-keeps-column, pass-keeps-row}
+use Rattle.laws.proofs.Marks.{at-marked, marked-iff, pass-iff, passes-iff, pass-keeps-column, pass-keeps-row}
 
 -- one link of f after another, all places below n
 pub data Walk (n : ℕ) (f : ℕ → ℕ → Bool) : ℕ → ℕ → Type 0 where
@@ -117,6 +117,31 @@ module _ (n : ℕ) (f : ℕ → ℕ → Bool) where
       along : {a b : ℕ} → Walk n f a b → R a b
       along (last {i = a} {j = b} ha hb l) = link a b ha hb l
       along {b = c} (then {i = a} {j = b} ha l w) = let hb = walk-start w in join a b c ha hb (walk-end w) (link a b ha hb l) (along w)
+
+-- ---- the closure of any marks reads the first n rows and columns only, and is reachability there
+
+module _ (n : ℕ) (t : Marks) where
+  passes-inside : (k : ℕ) → k ≤ n → (i j : ℕ) → i < n → j < n → at (passes n k t) i j ≡ at (passes n k (marked n (at t))) i j
+  unfolding passes pass
+  passes-inside zero h i j hi hj = sym (at-marked n (at t) i j hi hj)
+  passes-inside (suc k) h i j hi hj =
+      let hk : k < n = omega arith in
+      let same = passes-inside k (omega arith) in
+      let u = passes n k t in
+      let v = passes n k (marked n (at t)) in
+      at-marked n (λ a b. at u a b || (at u a k && at u k b)) i j hi hj
+      ∙ rw (same i j hi hj, same i k hi hk, same k j hk hj)
+      (sym (at-marked n (λ a b. at v a b || (at v a k && at v k b)) i j hi hj))
+
+  pub marks-iff-walk : (i j : ℕ) → i < n → j < n → T (at (closure n t) i j) ↔ Walk n (at t) i j
+  unfolding closure
+  marks-iff-walk i j hi hj = rw (passes-inside n (omega arith) i j hi hj) (closure-iff-walk n (at t) i j)
+
+  pub marks-link : (i j : ℕ) → i < n → j < n → T (at t i j) → T (at (closure n t) i j)
+  marks-link i j hi hj h = marks-iff-walk i j hi hj .1 (last hi hj h)
+
+  pub marks-join : (i j k : ℕ) → i < n → j < n → k < n → T (at (closure n t) i j) → T (at (closure n t) j k) → T (at (closure n t) i k)
+  marks-join i j k hi hj hk p q = marks-iff-walk i k hi hk .1 (walk-on (marks-iff-walk i j hi hj .0 p) (marks-iff-walk j k hj hk .0 q))
 
 -- more links, more marks
 pub closure-grows : (n : ℕ) (f g : ℕ → ℕ → Bool) → ((i j : ℕ) → i < n → j < n → T (f i j) → T (g i j))

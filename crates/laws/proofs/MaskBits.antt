@@ -12,7 +12,7 @@ use Rattle.scope.specs.Runs.{bit}
 use Rattle.laws.proofs.Cases.{eqb-iff}
 
 -- ---- a bit as a digit, 0 or 1
-abbrev digit : ℕ → ℕ → ℕ
+abbrev pub digit : ℕ → ℕ → ℕ
 digit m i = m / 2 ^ i % 2
 
 bit-iff : (m i : ℕ) → T (bit m i) ↔ (digit m i ≡ 1)
@@ -26,7 +26,7 @@ clear-digit m i h = elim (either (digit m i) 1) [ inl l ↦ omega arith | inr l 
 larger-is-one : (x y : ℕ) → max (x % 2) (y % 2) ≡ 1 → (x % 2 ≡ 1 → ⊥) → y % 2 ≡ 1
 larger-is-one x y h f = elim (either (x % 2) 1) [ inl l ↦ omega arith | inr l ↦ absurd (f (omega arith)) ]
 
-or-digit : (a b q : ℕ) → digit (bitOr a b) q ≡ max (digit a q) (digit b q)
+pub or-digit : (a b q : ℕ) → digit (bitOr a b) q ≡ max (digit a q) (digit b q)
 or-digit a b q = ap (λ (n : ℕ). n % 2) (or-shr a b q ∙ or-step (a / 2 ^ q) (b / 2 ^ q)) ∙ last (bitOr (a / 2 ^ q / 2) (b / 2 ^ q / 2)) (a / 2 ^ q) (b / 2 ^ q)
   where
     last : (h x y : ℕ) → (h * 2 + max (x % 2) (y % 2)) % 2 ≡ max (x % 2) (y % 2)

@@ -1,11 +1,13 @@
--- More samples, proved by computation: document 01's "By program" and "Mistakes to catch", each refusal of the card reader, ends of ranges, the writer, and
--- proportions.
-use Prim.Native.Nat.{ℕ, _/_, _%_, _^_}
+-- More samples, proved by computation: document 01's "By program" and "Mistakes to catch", each refusal of the card reader, ends of ranges, the writer,
+-- proportions and packed rows.
+use Prim.Native.Nat.{ℕ, _-_, _/_, _%_, _^_}
 use mathlib.Core.Path.{_≡_, refl}
 use mathlib.Core.Bool.{Bool, true, false}
 use mathlib.Core.List.{List, [], _∷_, _++_, map}
 use lib.IntN.{pos, negsuc}
-use lib.ListN.{replicate, take}
+use lib.Bits.{bitOr}
+use lib.Dec.{eqb}
+use lib.ListN.{getD, replicate, take}
 use lib.Ieee.{Float, nan, inf, fin, binary64, neg, ofBits, toBits}
 use Rattle.shapes.specs.declared.rectangle.Rectangle.{Rectangle}
 use Rattle.scope.specs.Numbers.{nought, one, two, half, whole, e-10, golden}
@@ -15,6 +17,7 @@ use Rattle.scope.specs.Refusals.{refused, given, cardRefusal}
 use Rattle.shapes.specs.Records.{pointAt, circleOf, rectangleOf}
 use Rattle.scope.specs.Distance.{rootAnswer, distanceAnswer, circleDistanceAnswer, containsPointAnswer}
 use Rattle.scope.specs.Links.{regions}
+use Rattle.scope.specs.PackedRows.{packedRow, unpackedRow, packedWords, markOf, joinedWords}
 use Rattle.scope.specs.Groups.{refusedGrouping, areaGrouping, plainGrouping, clusters}
 use Rattle.scope.specs.Tolerance.{tolerance}
 use Rattle.scope.specs.Packing.{skylinePack, columnsAnswer, rows, noRectangle, refusedPacking}
@@ -553,4 +556,43 @@ proportions =
       ink-first = refl;
       no-box = refl;
       padding-first = refl;
+    }
+
+-- ---- document 02, 4/14: packed rows
+
+-- a row with the marks 1 0 1 1
+abbrev pub fourMarks : List Bool
+fourMarks = true ∷ false ∷ true ∷ true ∷ []
+
+abbrev pub inFour : ℕ → Bool
+inFour j = getD fourMarks j false
+
+pub record RowChecks : Type 0 where
+  -- place j is worth 2^j: 1 + 4 + 8
+  pub four-packed : packedRow 4 inFour ≡ 13
+  pub four-unpacked : unpackedRow 4 13 ≡ fourMarks
+  -- what is past the row's width is not packed, and the last place of 64 is
+  pub two-packed : packedRow 2 inFour ≡ 1
+  pub last-place : packedRow 64 (λ j. eqb j 63) ≡ 0x8000_0000_0000_0000
+  pub every-place : packedRow 64 (λ j. true) ≡ 2 ^ 64 - 1
+  -- joined: 1 0 1 and 0 1 1 are 1 1 1
+  pub either : unpackedRow 3 (bitOr 5 6) ≡ true ∷ true ∷ true ∷ []
+  -- in two words of two places, the lowest first
+  pub in-words : packedWords 2 2 inFour ≡ 1 ∷ 3 ∷ []
+  pub from-words : map (markOf 2 (1 ∷ 3 ∷ [])) (0 ∷ 1 ∷ 2 ∷ 3 ∷ []) ≡ fourMarks
+  pub words-joined : joinedWords 2 (1 ∷ 2 ∷ []) (2 ∷ 2 ∷ []) ≡ 3 ∷ 2 ∷ []
+
+pub packedRows : RowChecks
+unfolding computing
+packedRows =
+    record {
+      four-packed = refl;
+      four-unpacked = refl;
+      two-packed = refl;
+      last-place = refl;
+      every-place = refl;
+      either = refl;
+      in-words = refl;
+      from-words = refl;
+      words-joined = refl;
     }

@@ -5,6 +5,7 @@ pub mod Refusals
 pub mod Distance
 pub mod Links
 pub mod Closure
+pub mod PackedRows
 pub mod Groups
 pub mod Tolerance
 pub mod Offset

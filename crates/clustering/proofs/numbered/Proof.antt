@@ -1,10 +1,9 @@
--- `numbered` meets its contract: the circles before i have their numbers.
-use Prim.Native.Nat.{ℕ, _-_, _≤_, _<_}
+-- `numbered` meets its contract: the clusters whose smallest circle comes before i have their number, and their circles are marked as seen.
+use Prim.Native.Nat.{_-_, _≤_}
 use native.Mathlib.Omega.{arith}
 use mathlib.Core.Path.{_≡_, refl, _∙_}
 use mathlib.Core.Logic.{⊎-elim}
-use lib.ListN.{length, getD, length-set}
-use borrow.Author.Needs.{needs}
+use lib.ListN.{length}
 use Rattle.scope.specs.Limits.{circleCap}
 use Rattle.scope.specs.Closure.{Marks, at}
 use Rattle.laws.proofs.Closure.{Equivalence}
@@ -15,28 +14,24 @@ use Rattle.clustering.proofs.numbered.Statement.{statement}
 use Rattle.clustering.proofs.numbered.Tie as tie
 
 abbrev Inv-loop : tie.InvT-loop
-Inv-loop m n count₀ numbers₀ i₀ count numbers i = (i ≤ n) × (count ≤ i) × (length numbers ≡ maxCircles) × ((t : Marks) → Shows n m (at t) → Equivalence n t → Numbered n t i count numbers)
+Inv-loop m n count₀ numbers₀ seen₀ i₀ count numbers seen i =
+    (i ≤ n) × (count ≤ i)
+    × ((t : Marks) → Shows n m (at t) → Equivalence n t → (length numbers ≡ maxCircles) × (length seen ≡ maxCircles) × Numbered n t i count numbers seen)
 
 abbrev μ-loop : tie.MeasureT-loop
-μ-loop m n count₀ numbers₀ i₀ count numbers i = n - i
+μ-loop m n count₀ numbers₀ seen₀ i₀ count numbers seen i = n - i
 
 loop-holds : tie.Need-loop-holds Inv-loop μ-loop
-loop-holds c = (omega arith, omega arith, refl, λ t s q. numbered-none _ maxCircles t)
+loop-holds c = (omega arith, omega arith, λ t s e. (refl, refl, numbered-none _ maxCircles t))
 
-first-marked-requires : tie.Need-first-marked-requires Inv-loop μ-loop
-first-marked-requires c κs = search needs
+array-read-if1 : tie.Need-array-read-if1 Inv-loop μ-loop
+array-read-if1 c = omega arith
 
-array-read-numbers : tie.Need-array-read-numbers Inv-loop μ-loop
-array-read-numbers c = omega arith
+cast-give : tie.Need-cast-give Inv-loop μ-loop
+cast-give c = omega arith
 
-array-write-numbers : tie.Need-array-write-numbers Inv-loop μ-loop
-array-write-numbers c = omega arith
-
-cast-numbers : tie.Need-cast-numbers Inv-loop μ-loop
-cast-numbers c = omega arith
-
-array-write-numbers-2 : tie.Need-array-write-numbers-2 Inv-loop μ-loop
-array-write-numbers-2 c = omega arith
+give-requires : tie.Need-give-requires Inv-loop μ-loop
+give-requires c κs = omega arith
 
 add-count : tie.Need-add-count Inv-loop μ-loop
 add-count c = omega arith
@@ -49,29 +44,25 @@ loop-less c = omega arith
 
 loop-again : tie.Need-loop-again Inv-loop μ-loop
 loop-again c =
-    let q = c .before .before in
-    let l = q .before .loop in
-    let hi = q .loop-test .taken in
-    let hl : l .i < length (l .numbers) = omega arith in
-    let first = c .before .first-marked in
+    let l = c .before .before .loop in
+    let hi = c .before .loop-test .taken in
     ⊎-elim
-    (λ w. rw (w .1, w .2) (
+    (λ w. rw (w .4, w .5, w .6) (
       omega arith,
       omega arith,
-      length-set {A = ℕ} (l .numbers) (l .i) (getD (l .numbers) (first .result) 0) ∙ l .inv .2,
-      λ t s e. numbered-old _ t e _ _ _ hi hl (l .inv .3 t s e) _ (first .ensures (at t) s) (w .0 .taken),
+      λ t s e.
+          let g = l .inv .2 t s e in
+          let given = w .3 .ensures (at t) s in
+          (given .0 .long ∙ g .0, given .1 .long ∙ g .1, numbered-new _ t e _ hi (g .2) (omega arith) (omega arith) (w .0 .taken) (given .0) (given .1)),
     ))
-    (λ w. rw (w .1, w .2) (
-      omega arith,
-      omega arith,
-      length-set {A = ℕ} (l .numbers) (l .i) (l .count) ∙ l .inv .2,
-      λ t s e. numbered-new _ t e _ _ _ hi hl (l .inv .3 t s e) _ (first .ensures (at t) s) (w .0 .left),
-    ))
+    (λ w. rw (w .1, w .2, w .3) (omega arith, omega arith, λ t s e. let g = l .inv .2 t s e in (g .0, g .1, numbered-old _ t e _ hi (g .2) (w .0 .left))))
     (c .if1 .came)
 
 returns : tie.Need-returns Inv-loop μ-loop
 unfolding circleCap
-returns c = let l = c .before .loop in λ t s e. numbered-all _ t _ _ _ (c .before .before .pre) (l .inv .0) (c .loop-test .left) (l .inv .2) (l .inv .3 t s e)
+returns c =
+    let l = c .before .loop in
+    λ t s e. numbered-all _ t e _ _ _ _ (c .before .before .pre) (l .inv .0) (c .loop-test .left) (l .inv .2 t s e .0) (l .inv .2 t s e .2)
 
 pub numbered-spec : {M : Type 1} → statement M
 numbered-spec =
@@ -80,11 +71,9 @@ numbered-spec =
     Inv-loop
     μ-loop
     loop-holds
-    first-marked-requires
-    array-read-numbers
-    array-write-numbers
-    cast-numbers
-    array-write-numbers-2
+    array-read-if1
+    cast-give
+    give-requires
     add-count
     add-i
     loop-less

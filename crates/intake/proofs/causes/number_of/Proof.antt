@@ -5,32 +5,31 @@ use mathlib.Core.Path.{_≡_, refl, sym, _∙_}
 use lib.ListN.{drop}
 use Rattle.scope.specs.Runs.{bit}
 use Rattle.scope.specs.Refusals.{causes, first}
-use Rattle.intake.proofs.CauseWords.{cause-small, cause-found, cause-passed}
+use Rattle.intake.proofs.CauseWords.{Small, all-small, cause-found, cause-passed}
 use Rattle.intake.proofs.causes.number_of.Statement.{statement}
 use Rattle.intake.proofs.causes.number_of.Tie as tie
 
 abbrev Inv-loop : tie.InvT-loop
-Inv-loop word order i₀ i = (i ≤ 16) × (first (bit word) (drop i causes) ≡ first (bit word) causes)
+Inv-loop word order i₀ i = (i ≤ 16) × Small order × (first (bit word) (drop i causes) ≡ first (bit word) causes)
 
 abbrev μ-loop : tie.MeasureT-loop
 μ-loop word order i₀ i = 16 - i
 
 loop-holds : tie.Need-loop-holds Inv-loop μ-loop
-loop-holds c = (omega arith, refl)
+loop-holds c = (omega arith, all-small _ tt, refl)
 
 array-read-k : tie.Need-array-read-k Inv-loop μ-loop
 array-read-k c = omega arith
 
 has-requires : tie.Need-has-requires Inv-loop μ-loop
-unfolding causes
-has-requires c κs = cause-small (c .before .loop .i) (c .loop-test .taken)
+has-requires c κs = c .before .loop .inv .1 .each (c .before .loop .i) (c .loop-test .taken)
 
 returns : tie.Need-returns Inv-loop μ-loop
 unfolding causes
 returns c =
     let s = c .before in
     let l = s .before .before .loop in
-    cause-found (bit (s .before .before .before .args .word)) (l .i) (s .before .loop-test .taken) (l .inv .1) (sym (s .has .ensures) ∙ c .if1 .taken)
+    cause-found (bit (s .before .before .before .args .word)) (l .i) (s .before .loop-test .taken) (l .inv .2) (sym (s .has .ensures) ∙ c .if1 .taken)
 
 add-i : tie.Need-add-i Inv-loop μ-loop
 add-i c = omega arith
@@ -43,14 +42,14 @@ unfolding causes
 loop-again c =
     let s = c .before in
     let l = s .before .before .loop in
-    (omega arith, cause-passed (bit (s .before .before .before .args .word)) (l .i) (s .before .loop-test .taken) (l .inv .1) (sym (s .has .ensures) ∙ c .if1 .left))
+    (omega arith, l .inv .1, cause-passed (bit (s .before .before .before .args .word)) (l .i) (s .before .loop-test .taken) (l .inv .2) (sym (s .has .ensures) ∙ c .if1 .left))
 
 returns-2 : tie.Need-returns-2 Inv-loop μ-loop
 unfolding causes first
 returns-2 c =
     let l = c .before .loop in
     let all : l .i ≡ 16 = omega arith in
-    rw all at (l .inv .1)
+    rw all at (l .inv .2)
 
 pub number-of-spec : {M : Type 1} → statement M
 number-of-spec = tie.close (tie.spec Inv-loop μ-loop loop-holds array-read-k has-requires returns add-i loop-less loop-again returns-2)
