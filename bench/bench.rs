@@ -1,4 +1,4 @@
-// Times layouts and clusterings of the port and of the Rust on the same inputs, in one run, and prints port over Rust.
+// Times layouts, clusterings and charges of the port and of the Rust on the same inputs, in one run, and prints port over Rust.
 // With cfg `before` the library of an earlier commit is linked too, its calls' names beginning with `before_`, and port over that is printed.
 // Each workload is run in rounds, the sides in turn; a figure is the median of the rounds' ratios.
 #[path = "../target/bench/eunoia_at_1.618.rs"]
@@ -39,6 +39,12 @@ struct Clusters {
     refusal: u8,
     count: usize,
     numbers: [u8; 64],
+}
+
+#[repr(C)]
+struct Charge {
+    refusal: u8,
+    amount: u64,
 }
 
 type Layout = unsafe extern "C" fn(*mut Record, usize, f64, *const u64, usize, *const f64, usize, f64) -> Answer;
@@ -85,6 +91,22 @@ fn before() -> Option<Library> {
     return Some(library!("before", before_rundhefja_layout, before_rundhefja_area_clusters, before_rundhefja_clusters, before_rundhefja_root));
     #[cfg(not(before))]
     return None;
+}
+
+// Of this library alone: one of an earlier commit may not have it.
+#[link(name = "rundhefja", kind = "static")]
+unsafe extern "C" {
+    fn rundhefja_card_stock(
+        circles: *const Record,
+        circles_len: usize,
+        factor: f64,
+        masks: *const u64,
+        masks_len: usize,
+        areas: *const f64,
+        areas_len: usize,
+        proportion: f64,
+        cents: u64,
+    ) -> Charge;
 }
 
 #[derive(Clone, Copy)]
@@ -140,6 +162,31 @@ impl Card {
         let mut shapes: Vec<S> = self.circles.iter().map(|c| S::of(c.x, c.y, c.radius)).collect();
         S::lay_out(&mut shapes, self.factor, areas);
         shapes
+    }
+    // what the card stock costs
+    fn port_stock(&self, cents: u64) -> u64 {
+        let (circles, masks, areas) = (&self.circles, &self.masks, &self.areas);
+        let answer = unsafe {
+            rundhefja_card_stock(
+                circles.as_ptr(),
+                circles.len(),
+                self.factor,
+                masks.as_ptr(),
+                masks.len(),
+                areas.as_ptr(),
+                areas.len(),
+                self.proportion,
+                cents,
+            )
+        };
+        assert_eq!(answer.refusal, 0);
+        answer.amount
+    }
+    // the same from the Rust's layout and boxes
+    fn rust_stock(&self, areas: &BTreeMap<usize, f64>, cents: u64) -> u64 {
+        let finished = self.rust::<eunoia::Circle>(areas);
+        let sheet = finished.iter().map(eunoia::BoundingBox::bounds).reduce(|all, next| all.union(&next)).unwrap();
+        (sheet.width().ceil() as u64 * sheet.height().ceil() as u64).div_ceil(100) * cents
     }
     // the cluster of each circle, by regions or by how the circles lie
     fn grouped(&self, by: By, library: &Library) -> [u8; 64] {
@@ -258,14 +305,22 @@ fn median(mut values: Vec<f64>) -> f64 {
 
 const ROUNDS: usize = 31;
 
-// Times the sides over and over, in turn, and prints microseconds a call and the ratios: the port over the library before it, if there is one, and over the Rust.
+// A name, and what is timed under it.
+type Side<'a> = (&'a str, Box<dyn Fn() + 'a>);
+
+// The port, the library before it, if there is one, and the Rust.
 fn report(name: &str, calls: usize, port: impl Fn(&Library), rust: impl Fn()) {
     let (now, before) = (now(), before());
-    let mut sides: Vec<(&str, Box<dyn Fn() + '_>)> = vec![("port", Box::new(|| port(&now)))];
+    let mut sides: Vec<Side> = vec![("port", Box::new(|| port(&now)))];
     if let Some(before) = &before {
         sides.push(("before", Box::new(|| port(before))));
     }
     sides.push(("Rust", Box::new(&rust)));
+    compare(name, calls, sides);
+}
+
+// Times the sides over and over, in turn, and prints microseconds a call and the ratios of the first side over each other one.
+fn compare(name: &str, calls: usize, sides: Vec<Side>) {
     let mut times = vec![Vec::new(); sides.len()];
     for _ in 0..ROUNDS {
         for ((_, side), times) in sides.iter().zip(&mut times) {
@@ -307,6 +362,17 @@ fn layouts_at<S: Shape>(name: &str, cards: Vec<Card>, repeats: usize) {
     );
 }
 
+fn charges(name: &str, cards: Vec<Card>, repeats: usize) {
+    const CENTS: u64 = 7;
+    let maps: Vec<_> = cards.iter().map(Card::areas_of).collect();
+    for (card, map) in cards.iter().zip(&maps) {
+        assert_eq!(card.port_stock(CENTS), card.rust_stock(map, CENTS), "{name}: the answers differ");
+    }
+    let port = || (0..repeats).for_each(|_| cards.iter().for_each(|c| { black_box(c.port_stock(black_box(CENTS))); }));
+    let rust = || (0..repeats).for_each(|_| cards.iter().zip(&maps).for_each(|(c, m)| { black_box(c.rust_stock(m, black_box(CENTS))); }));
+    compare(name, repeats * cards.len(), vec![("port", Box::new(port)), ("Rust", Box::new(rust))]);
+}
+
 // 64 circles that are linked by these masks.
 fn linked(masks: &[u64]) -> Card {
     let regions: Vec<(u64, f64)> = masks.iter().map(|m| (*m, 1.0)).collect();
@@ -337,16 +403,19 @@ fn clusterings(name: &str, by: By, card: Card, repeats: usize) {
 
 fn main() {
     let random = &mut Random(2026);
-    layouts("64 circles in many clusters", (0..4).map(|_| many_clusters(random)).collect(), 50);
-    let again = &mut Random(2026);
-    layouts_at::<eunoia_at_half::Circle>("the same at 1/2, in taller grids", (0..4).map(|_| many_clusters(again)).collect(), 50);
+    let many: Vec<_> = (0..4).map(|_| many_clusters(random)).collect();
+    layouts("64 circles in many clusters", many.clone(), 50);
+    layouts_at::<eunoia_at_half::Circle>("the same at 1/2, in taller grids", many.clone(), 50);
     let one_clusters: Vec<_> = (0..2).map(|_| one_cluster(random)).collect();
     layouts("64 circles in one cluster, 2,048 regions", one_clusters.clone(), 20);
     layouts("32 parents with a child each", (0..4).map(|_| parents(random)).collect(), 10);
-    layouts("small cards, 2 to 6 circles", (0..100).map(|_| small(random)).collect(), 20);
+    let small_cards: Vec<_> = (0..100).map(|_| small(random)).collect();
+    layouts("small cards, 2 to 6 circles", small_cards.clone(), 20);
     for n in [2, 3, 4, 6, 16, 64] {
         layouts(&format!("{n} circles"), (0..20).map(|_| mixed(random, n)).collect(), 400 / n);
     }
+    charges("charge: 64 circles in many clusters", many, 50);
+    charges("charge: small cards, 2 to 6 circles", small_cards, 20);
     clusterings("clustering: 64 circles in one chain", By::Regions, linked(&(0..63).map(|i| 3u64 << i).collect::<Vec<_>>()), 200);
     clusterings("clustering: 64 circles in one clique", By::Regions, linked(&[u64::MAX]), 200);
     clusterings("clustering: 64 circles in 32 pairs", By::Regions, linked(&(0..32).map(|i| 3u64 << (2 * i)).collect::<Vec<_>>()), 200);

@@ -27,7 +27,7 @@
  * 0 to 1; 7 a side that is not finite or outside 0 to 2^23; 8 a padding that is not finite or outside 0 to 2^26; 9 a tag unknown or out of place; 10 a
  * field's length wrong for its tag; 11 a file that ends inside a field; 12 the root of NaN or of a number below 0; 13 masks and areas of unequal number;
  * 14 two circles of one run, or of one file, that have the same ink; 15 a lent list that is too short for what is to be written; 16 a proportion that is not
- * finite or outside 1/4 to 4.
+ * finite or outside 1/4 to 4; 17 a price outside 1 to 100.
  * The lowest that applies comes back, but 13 before 2; a file and a field are checked front to back, and a file's values after that. */
 #ifndef RUNDHEFJA_H
 #define RUNDHEFJA_H
@@ -45,6 +45,7 @@ extern "C" {
 #define RUNDHEFJA_MAX_INPUT 65536
 #define RUNDHEFJA_MAX_TEXT 4096
 #define RUNDHEFJA_MAX_FILE 40779 /* a card's longest: 64 circles and 2,048 regions */
+#define RUNDHEFJA_MAX_PRICE 100  /* in cents; the least is 1 */
 
 /* A grid's proportion is about its columns to its rows, any from 1/4, for narrow stock, to 4, the ends inside. This is the one that program card keeps. */
 #define RUNDHEFJA_PROPORTION 1.618
@@ -123,6 +124,12 @@ typedef struct {
     double padding;
 } rundhefja_layout_result;
 
+/* amount: what the card stock of a layout costs, in cents. */
+typedef struct {
+    uint8_t refusal;
+    uint64_t amount;
+} rundhefja_charge;
+
 /* tag 1: factor; tag 2: circle; tag 3: mask and area. The body is body_length bytes of the file, from body_start on. */
 typedef struct {
     uint8_t refusal;
@@ -156,6 +163,12 @@ typedef struct {
  * their distance; a moved circle does not reach past its parent; two circles have one number exactly if a chain of regions joins them. */
 rundhefja_layout_result rundhefja_layout(rundhefja_circle *circles, size_t circles_len, double factor, const uint64_t *masks, size_t masks_len,
                                          const double *areas, size_t areas_len, double proportion);
+
+/* What the card stock of a layout costs: the layout is made of a copy, so the circles are only read. The width and the height of the box that holds all finished
+ * circles, as the calls on boxes below give them, are each raised to whole millimetres; each hundred square millimetres that is started costs so many cents, 1 to
+ * RUNDHEFJA_MAX_PRICE. No circles cost 0. The amount is exact, and below 2^59. Refuses 1, 13, 2, 3, 4, 5, 6, 14, 16, 17. */
+rundhefja_charge rundhefja_card_stock(const rundhefja_circle *circles, size_t circles_len, double factor, const uint64_t *masks, size_t masks_len,
+                                      const double *areas, size_t areas_len, double proportion, uint64_t cents);
 
 /* Moves the container to the origin, the circles along, and the circles to its middle, unless they reach past its edge. Rewrites the circles' centres. Refuses
  * 1, 3, 4, 7, 14. */

@@ -1,9 +1,10 @@
-/* Lays out a card of four inks and prints where each circle goes, with the ink's number in the recipe book. */
+/* Lays out a card of four inks and prints where each circle goes, with the ink's number in the recipe book, and what the card stock costs. */
 #include <stdio.h>
 
 #include "rundhefja.h"
 
 #define INKS 4
+#define CENTS 3 /* for each hundred square millimetres of stock that is started */
 
 int main(void) {
     static const char *names[INKS] = {"ocean", "teal", "rust", "sand"};
@@ -14,9 +15,11 @@ int main(void) {
     const double areas[] = {1178, 78, 640, 390, 60};
     int i;
 
+    /* the charge reads the circles as they are handed in, so it comes before the layout, which rewrites them */
+    rundhefja_charge stock = rundhefja_card_stock(inks, INKS, 0.1, masks, 5, areas, 5, RUNDHEFJA_PROPORTION, CENTS);
     rundhefja_layout_result r = rundhefja_layout(inks, INKS, 0.1, masks, 5, areas, 5, RUNDHEFJA_PROPORTION);
-    if (r.refusal != 0) {
-        printf("refused %d\n", r.refusal);
+    if (stock.refusal != 0) { /* all that a layout is refused for, and a bad price */
+        printf("refused %d\n", stock.refusal);
         return 1;
     }
     printf("%d groups, %.3f mm apart\n", (int)r.count, r.padding);
@@ -24,5 +27,6 @@ int main(void) {
         printf("ink %d, %-5s group %d at %8.3f %8.3f radius %g%s\n", inks[i].ink, names[i], r.numbers[i], inks[i].center.x, inks[i].center.y, inks[i].radius,
                r.moved >> i & 1 ? ", moved off its parent's centre" : "");
     }
+    printf("card stock %lu cents\n", (unsigned long)stock.amount);
     return 0;
 }

@@ -112,6 +112,8 @@ static const char *name_of(int ink) {
 }
 
 static int show(card *c) {
+    /* of the circles as they were saved, at 3 cents for each hundred square millimetres that is started */
+    const rundhefja_charge stock = rundhefja_card_stock(c->circle, c->circles, c->factor, c->mask, c->regions, c->area, c->regions, RUNDHEFJA_PROPORTION, 3);
     const rundhefja_layout_result r = rundhefja_layout(c->circle, c->circles, c->factor, c->mask, c->regions, c->area, c->regions, RUNDHEFJA_PROPORTION);
     size_t i;
     if (r.refusal != 0) {
@@ -124,6 +126,7 @@ static int show(card *c) {
         printf("ink %d, %-5s group %d at %8.3f %8.3f radius %g%s\n", k.ink, name_of(k.ink), r.numbers[i], k.center.x, k.center.y, k.radius,
                r.moved >> i & 1 ? ", moved off its parent's centre" : "");
     }
+    printf("card stock %lu cents\n", (unsigned long)stock.amount);
     return 1;
 }
 

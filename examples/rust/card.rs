@@ -1,4 +1,4 @@
-// Lays out a card of four inks and prints where each circle goes, with the ink's number in the recipe book.
+// Lays out a card of four inks and prints where each circle goes, with the ink's number in the recipe book, and what the card stock costs.
 // The library's proofs want round to nearest and subnormals, as every Rust program starts with, unless it is linked with -ffast-math: rundhefja.h has a check.
 #[repr(C)]
 #[derive(Clone, Copy)]
@@ -24,6 +24,12 @@ struct Layout {
     padding: f64,
 }
 
+#[repr(C)]
+struct Charge {
+    refusal: u8,
+    amount: u64,
+}
+
 #[link(name = "rundhefja", kind = "static")]
 unsafe extern "C" {
     fn rundhefja_layout(
@@ -36,6 +42,17 @@ unsafe extern "C" {
         areas_len: usize,
         proportion: f64,
     ) -> Layout;
+    fn rundhefja_card_stock(
+        circles: *const Circle,
+        circles_len: usize,
+        factor: f64,
+        masks: *const u64,
+        masks_len: usize,
+        areas: *const f64,
+        areas_len: usize,
+        proportion: f64,
+        cents: u64,
+    ) -> Charge;
 }
 
 // About the columns to the rows of the grid of clusters, from 1/4 to 4: the one that program `card` keeps.
@@ -59,6 +76,24 @@ fn layout(circles: &mut [Circle], factor: f64, masks: &[u64], areas: &[f64], pro
     if r.refusal == 0 { Ok(r) } else { Err(r.refusal) }
 }
 
+// What the card stock of a layout costs, at so many cents for each hundred square millimetres that is started; or the refusal's number.
+fn card_stock(circles: &[Circle], factor: f64, masks: &[u64], areas: &[f64], proportion: f64, cents: u64) -> Result<u64, u8> {
+    let r = unsafe {
+        rundhefja_card_stock(
+            circles.as_ptr(),
+            circles.len(),
+            factor,
+            masks.as_ptr(),
+            masks.len(),
+            areas.as_ptr(),
+            areas.len(),
+            proportion,
+            cents,
+        )
+    };
+    if r.refusal == 0 { Ok(r.amount) } else { Err(r.refusal) }
+}
+
 fn main() {
     let names = ["ocean", "teal", "rust", "sand"];
     // centre and radius in millimetres, and the ink's number
@@ -67,14 +102,17 @@ fn main() {
     // ocean alone, ocean and teal, rust alone, sand alone, rust and sand
     let masks = [1, 3, 4, 8, 12];
     let areas = [1178.0, 78.0, 640.0, 390.0, 60.0];
-    match layout(&mut inks, 0.1, &masks, &areas, PROPORTION) {
-        Err(refusal) => println!("refused {refusal}"),
-        Ok(l) => {
+    // of the circles as they are handed in, so before the layout
+    let stock = card_stock(&inks, 0.1, &masks, &areas, PROPORTION, 3);
+    match (layout(&mut inks, 0.1, &masks, &areas, PROPORTION), stock) {
+        (Err(refusal), _) | (_, Err(refusal)) => println!("refused {refusal}"),
+        (Ok(l), Ok(cents)) => {
             println!("{} groups, {:.3} mm apart", l.count, l.padding);
             for (i, c) in inks.iter().enumerate() {
                 let moved = if l.moved >> i & 1 == 1 { ", moved off its parent's centre" } else { "" };
                 println!("ink {}, {:<5} group {} at {:8.3} {:8.3} radius {}{moved}", c.ink, names[i], l.numbers[i], c.center.x, c.center.y, c.radius);
             }
+            println!("card stock {cents} cents");
         }
     }
 }

@@ -324,19 +324,37 @@ static int lay_out(double factor, double proportion, rundhefja_layout_result *l)
     return 1;
 }
 
-/* How many circles, masks and areas; the proportion, the factor, the circles, the masks, the areas; the refusal, the clusters, the mask of the moved circles,
- * the padding and, where they fit a layout, the circles. */
+/* How many circles, masks and areas; the proportion, the factor, the circles, the masks, the areas. Lends these. 0 where a body has less. */
+static int lend_layout(record *r, double *factor, double *proportion) {
+    size_t n = take(r, 1), m = take(r, 2), a = take(r, 2);
+    *proportion = take_double(r);
+    *factor = take_double(r);
+    return lend_next(lend_circles, &circles, r, n * CIRCLE_BYTES) && lend_next(lend, &masks, r, m * sizeof(uint64_t))
+           && lend_next(lend_doubles, &areas, r, a * sizeof(double));
+}
+
+/* A layout's input; the refusal, the clusters, the mask of the moved circles, the padding and, where they fit a layout, the circles. */
 static int layout(record *r) {
-    size_t n = take(r, 1), m = take(r, 2), a = take(r, 2), i;
-    double proportion = take_double(r), factor = take_double(r);
+    size_t n, i;
+    double factor, proportion;
     rundhefja_layout_result l;
-    if (!lend_next(lend_circles, &circles, r, n * CIRCLE_BYTES) || !lend_next(lend, &masks, r, m * sizeof(uint64_t))) return 0;
-    if (!lend_next(lend_doubles, &areas, r, a * sizeof(double)) || !lay_out(factor, proportion, &l)) return 0;
+    if (!lend_layout(r, &factor, &proportion) || !lay_out(factor, proportion, &l)) return 0;
+    n = circles.size / sizeof(rundhefja_circle);
     if (!is_grouping(r, l.refusal, l.count, l.numbers) || !is_word(r, l.moved) || !is_double(r, l.padding)) return 0;
     for (i = 0; n <= RUNDHEFJA_MAX_CIRCLES && i < n; i++) {
         if (!is_circle(r, circle_at(i))) return 0;
     }
     return ended(r);
+}
+
+/* A layout's input, the price; the refusal, the amount. What is lent is only read. */
+static int charge(record *r) {
+    double factor, proportion;
+    rundhefja_charge c;
+    if (!lend_layout(r, &factor, &proportion)) return 0;
+    c = rundhefja_card_stock(run(&circles), circles.size / sizeof(rundhefja_circle), factor, run(&masks), masks.size / sizeof(uint64_t), run(&areas),
+                             areas.size / sizeof(double), proportion, take(r, 8));
+    return is_byte(r, c.refusal) && is_word(r, c.amount) && ended(r) && kept(&circles, 0) && kept(&masks, 0) && kept(&areas, 0);
 }
 
 /* ---- the card file */
@@ -522,6 +540,7 @@ static const struct {
     {"container", container},
     {"whole cards", card},
     {"whole layouts", layout},
+    {"charges", charge},
     {"fields", field},
 };
 

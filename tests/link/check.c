@@ -129,6 +129,9 @@ static void structs(void) {
     PLACE(rundhefja_layout_result, numbers, 16);
     PLACE(rundhefja_layout_result, moved, 80);
     PLACE(rundhefja_layout_result, padding, 88);
+    SIZE(rundhefja_charge, 16);
+    PLACE(rundhefja_charge, refusal, 0);
+    PLACE(rundhefja_charge, amount, 8);
     SIZE(rundhefja_field_result, 80);
     PLACE(rundhefja_field_result, refusal, 0);
     PLACE(rundhefja_field_result, tag, 1);
@@ -474,10 +477,19 @@ static int write_gives(size_t n, double factor, const uint64_t *masks, size_t re
     return w.refusal == refusal && w.length == (refusal == 0 ? 11 + 29 * n + 19 * regions : 0) && unwritten(w.length) && row_kept(14);
 }
 
+/* Whether the first n circles of the row cost something, or nothing where there are none, or are refused so. They are only read. */
+static int charge_gives(uint64_t cents, double proportion, size_t n, double factor, const uint64_t *masks, size_t regions, size_t areas_len, uint8_t refusal) {
+    static const double areas[2049];
+    rundhefja_charge c;
+    memcpy(row_was, row, sizeof row);
+    c = rundhefja_card_stock(row, n, factor, masks, regions, areas, areas_len, proportion, cents);
+    return c.refusal == refusal && (c.amount > 0) == (refusal == 0 && n > 0) && row_kept(14);
+}
+
 /* Whether each call on a run answers so of the first n circles of the row. */
 static int calls_give(size_t n, uint8_t refusal) {
     return clusters_give(n, refusal) && container_gives(n, rectangle(5, 7, 9000, 9000), refusal) && layout_gives(n, 0.5, 1, 1, refusal)
-           && write_gives(n, 0.5, rising, 1, 1, sizeof out, refusal);
+           && write_gives(n, 0.5, rising, 1, 1, sizeof out, refusal) && charge_gives(1, RUNDHEFJA_PROPORTION, n, 0.5, rising, 1, 1, refusal);
 }
 
 static void inks(void) {
@@ -571,6 +583,80 @@ static void proportions(void) {
         check(layout_gives_at(bad(i), 3, 1.5, 2049, 2049, 2) && layout_gives_at(bad(i), 3, 1.5, 2049, 2048, 13), "16 after 2 and 13");
         check(layout_gives_at(bad(i), 65, 1.5, 2049, 2048, 1), "16 after 1, of a layout");
     }
+}
+
+/* ---- charges */
+
+/* Whether n circles cost so much at a price, with no room between clusters; circles 0 and 1 are in one cluster if there is a region. */
+static int cost(const rundhefja_circle *circles, size_t n, size_t regions, uint64_t cents, uint64_t amount) {
+    static const uint64_t mask = 3;
+    static const double area = 1;
+    const rundhefja_charge c = rundhefja_card_stock(circles, n, 0, &mask, regions, &area, regions, RUNDHEFJA_PROPORTION, cents);
+    return c.refusal == 0 && c.amount == amount;
+}
+
+static int one_costs(double x, double y, double radius, uint64_t cents, uint64_t amount) {
+    const rundhefja_circle one = circle(x, y, radius, 7);
+    return cost(&one, 1, 0, cents, amount);
+}
+
+/* The same of two circles side by side. */
+static int two_cost(double apart, double radius, size_t regions, uint64_t cents, uint64_t amount) {
+    rundhefja_circle two[2];
+    two[0] = circle(0, 0, radius, 1);
+    two[1] = circle(apart, 0, radius, 2);
+    return cost(two, 2, regions, cents, amount);
+}
+
+/* 64 clusters of one circle, as far apart as they may be. */
+static int most_cost(double radius, double proportion, uint64_t amount) {
+    static const uint64_t mask = 0;
+    static const double area = 0;
+    rundhefja_circle most[64];
+    rundhefja_charge c;
+    int i;
+    for (i = 0; i < 64; i++) most[i] = circle(i % 2 == 0 ? 1048576 : -1048576, 1048576, radius, i);
+    c = rundhefja_card_stock(most, 64, 1, &mask, 0, &area, 0, proportion, RUNDHEFJA_MAX_PRICE);
+    return c.refusal == 0 && c.amount == amount;
+}
+
+static void charges(void) {
+    enum { BAD_PRICES = 5 }; /* two of them would be taken if they were cut to a shorter number */
+    static const uint64_t bad_prices[BAD_PRICES] = {0, RUNDHEFJA_MAX_PRICE + 1, 257, UINT64_C(0x100000001), UINT64_MAX};
+    const double p = RUNDHEFJA_PROPORTION;
+    rundhefja_circle two[2];
+    int i;
+    check(cost(row, 0, 0, 1, 0) && cost(row, 0, 0, RUNDHEFJA_MAX_PRICE, 0), "no circles cost 0");
+    check(one_costs(3, 4, 5, 7, 7) && one_costs(3, 4, 5, 1, 1) && one_costs(3, 4, 5, RUNDHEFJA_MAX_PRICE, 100), "10 by 10 millimetres");
+    check(one_costs(0, 0, above(5), 7, 14) && one_costs(0, 0, below(5), 7, 7), "a hair more, and a hair less");
+    check(one_costs(0, 0, 7.03125, 1, 3), "each side is raised, and not the area");
+    check(one_costs(0, 0, 9.5367431640625e-7, 9, 9), "the smallest circle");
+    check(two_cost(99, 0.5, 1, 100, 100) && two_cost(100, 0.5, 1, 100, 200) && two_cost(above(99), 0.5, 1, 100, 200), "100 and 101 square millimetres");
+    two[0] = circle(0, 0, 10, 1);
+    two[1] = circle(0, 70, 10.000000000000007, 2);
+    check(cost(two, 2, 1, 1, 19), "a width that is rounded to 90; exactly it is a hair more");
+    check(two_cost(1000, 1, 0, 100, 100), "the finished card, and not the one handed in");
+    /* the second sheet has whole hundreds, above 2^53 */
+    check(most_cost(1048576, 0.25, UINT64_C(16747761114284100)) && most_cost(1048575, 4, UINT64_C(16747729170480000)), "64 of the largest circles");
+    for (i = 0; i < BAD_PRICES; i++) {
+        const uint64_t cents = bad_prices[i];
+        set_row();
+        check(charge_gives(cents, p, 64, 0.5, rising, 1, 1, 17) && charge_gives(cents, p, 0, 0, rising, 0, 0, 17), "17, of a charge");
+        check(charge_gives(cents, bad(i), 2, 0.5, rising, 1, 1, 16) && charge_gives(cents, bad(i), 0, 0, rising, 0, 0, 16), "17 after 16");
+        row[2].ink = row[1].ink;
+        check(charge_gives(cents, bad(i), 3, 0.5, rising, 1, 1, 14) && charge_gives(cents, p, 3, 0.5, rising, 1, 1, 14), "17 after 14");
+        check(charge_gives(cents, bad(i), 3, 1.5, rising, 1, 1, 6) && charge_gives(cents, p, 0, -1, rising, 0, 0, 6), "17 after 6");
+        check(charge_gives(cents, bad(i), 3, 1.5, level, 2, 2, 5), "17 after 5");
+        row[0].radius = 0;
+        check(charge_gives(cents, bad(i), 3, 1.5, level, 2, 2, 4), "17 after 4");
+        row[1].center.y = of(PAYLOAD);
+        check(charge_gives(cents, bad(i), 3, 1.5, level, 2, 2, 3), "17 after 3");
+        check(charge_gives(cents, bad(i), 3, 1.5, rising, 2049, 2049, 2) && charge_gives(cents, p, 3, 1.5, rising, 2049, 2048, 13), "17 after 2 and 13");
+        check(charge_gives(cents, bad(i), 65, 1.5, rising, 2049, 2048, 1), "17 after 1");
+    }
+    set_row();
+    check(charge_gives(1, p, 64, 0.5, rising, 2048, 2048, 0), "a charge with 2,048 regions");
+    for (i = 0; i < BAD; i++) check(charge_gives(1, bad(i), 64, 0.5, rising, 1, 1, 16), "16, of a charge");
 }
 
 /* two circles and no region; see samples/ */
@@ -735,6 +821,7 @@ int main(int argc, char **argv) {
     layout();
     inks();
     proportions();
+    charges();
     field();
     write_card(argc > 1 ? argv[1] : "samples/two.card");
     card_text(argc > 1 ? argv[1] : "samples/two.card");

@@ -83,6 +83,16 @@ static void *apart(void *unused) {
     return unused;
 }
 
+static void *card_stock(void *unused) {
+    refusal = rundhefja_card_stock(circles, RUNDHEFJA_MAX_CIRCLES, 0.5, masks, RUNDHEFJA_MAX_REGIONS, areas, RUNDHEFJA_MAX_REGIONS, PROPORTION, 1).refusal;
+    return unused;
+}
+
+static void *card_stock_apart(void *unused) {
+    refusal = rundhefja_card_stock(circles, RUNDHEFJA_MAX_CIRCLES, 0.5, masks, 0, areas, 0, PROPORTION, 1).refusal;
+    return unused;
+}
+
 static void *container(void *unused) {
     const rundhefja_rectangle r = {{1, 1}, 100, 100};
     refusal = rundhefja_container(circles, RUNDHEFJA_MAX_CIRCLES, r).refusal;
@@ -149,6 +159,8 @@ static const struct {
 } calls[] = {
     {"a layout of 64 circles and 2,048 regions", layout, RUNDHEFJA_STACK},
     {"a layout of 64 clusters", apart, RUNDHEFJA_STACK},
+    {"the charge for 64 circles and 2,048 regions", card_stock, RUNDHEFJA_STACK},
+    {"the charge for 64 clusters", card_stock_apart, RUNDHEFJA_STACK},
     {"a container of 64 circles", container, RUNDHEFJA_STACK},
     {"clusters of 64 circles", clusters, RUNDHEFJA_STACK},
     {"clusters by 2,048 regions", area_clusters, RUNDHEFJA_STACK},

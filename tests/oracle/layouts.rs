@@ -74,7 +74,7 @@ pub fn full(random: &mut Random) -> Lists {
     lists
 }
 
-fn of_card(card: Card) -> Lists {
+pub fn of_card(card: Card) -> Lists {
     let (masks, areas) = card.regions.into_iter().unzip();
     Lists { factor: card.factor, circles: card.circles, inks: card.inks, masks, areas }
 }
@@ -102,7 +102,7 @@ fn clusters_of_one(random: &mut Random, n: usize) -> Lists {
     of_card(Card { factor, inks: random.inks(n), circles, regions })
 }
 
-fn damage(random: &mut Random, lists: &mut Lists, small: bool) {
+pub fn damage(random: &mut Random, lists: &mut Lists, small: bool) {
     let n = lists.circles.len();
     let m = lists.masks.len();
     let any = random.below(n.max(1) as u64) as usize;
@@ -117,7 +117,7 @@ fn damage(random: &mut Random, lists: &mut Lists, small: bool) {
         4 => lists.factor = random.pick(&[above(1.0), -5e-324, -1.0, 2.0, f64::NAN, f64::INFINITY, f64::NEG_INFINITY]),
         5 => lists.areas.push(1.0),
         6 if m > 0 => drop(lists.areas.pop()),
-        7 if n > 0 => {
+        7 if n > 0 && (!small || random.below(4) == 0) => {
             let many = random.pick(&[65, 65, 66, 70]);
             lists.circles.resize(many, lists.circles[any]);
             lists.inks.resize(many, lists.inks[any]);

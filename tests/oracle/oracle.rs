@@ -1,19 +1,21 @@
 // Writes records of inputs and the answers of the patched Rust, for the program `replay` and for tests/lent:
 //     oracle KIND COUNT SEED          COUNT random inputs of a kind
-//     oracle KIND COUNT SEED small    of kinds 8, 10, 11 and 12: mostly short records
-//     oracle KIND COUNT SEED stats    of kinds 10 and 11: and on standard error how often each case came up
-//     oracle at P KIND COUNT SEED     inputs of kind 8 or 11 at a proportion, until COUNT of them are accepted; `small` and `stats` as above
+//     oracle KIND COUNT SEED small    of kinds 4, 5 and 8 to 13: mostly short records
+//     oracle KIND COUNT SEED stats    of kinds 10, 11 and 12: and on standard error how often each case came up
+//     oracle at P KIND COUNT SEED     inputs of kind 8, 11 or 12 at a proportion, until COUNT of them are accepted; `small` and `stats` as above
 //     oracle columns P                a record of kind 7 for each of 0 to 65 boxes, at a proportion
+//     oracle charges                  a record of kind 12 for each boundary of a charge
 //     oracle files NAME...            a record of kind 10 for each of the card files
 //     oracle text                     what program `card` prints for the card file on standard input
 // A record is a kind byte, a two-byte length and a body: the input, then the answer; all numbers little-endian. Refusals are worked out here from document
-// 01's table, since the Rust asserts or takes what comes; so are the fields of kind 12, as the Rust has no card file. The Rust sees circles without their inks:
+// 01's table, since the Rust asserts or takes what comes; so are the fields of kind 13, as the Rust has no card file. The Rust sees circles without their inks:
 // those that come back are those handed in, and two equal ones of a list are refused with 14, after all of document 01. A proportion out of range is refused
-// with 16, after all else. Either zero is written as 0, and every NaN as one.
+// with 16, after these, and then a price with 17. Either zero is written as 0, and every NaN as one.
 #[path = "../../target/oracle/eunoia.rs"]
 mod eunoia;
 mod card;
 mod cards;
+mod charges;
 mod fields;
 mod layouts;
 
@@ -373,8 +375,9 @@ fn point_record(random: &mut Random, record: &mut Record) {
     record.byte((refusal == 0 && circle(c).contains_point(&Point::new(p[0], p[1]))) as usize);
 }
 
-fn some_circles(random: &mut Random) -> Vec<[f64; 3]> {
-    let n = random.pick(&[0, 1, 2, 2, 3, 3, 4, 5, 8, 13, 30, 63, 64, 65, 70]);
+fn some_circles(random: &mut Random, small: bool) -> Vec<[f64; 3]> {
+    let few = small && random.below(16) > 0;
+    let n = if few { random.pick(&[0, 1, 2, 2, 3, 3, 4, 5, 8]) } else { random.pick(&[0, 1, 2, 2, 3, 3, 4, 5, 8, 13, 30, 63, 64, 65, 70]) };
     let wild = random.pick(&[0, 0, 0, 40, 400]);
     let mut circles: Vec<[f64; 3]> = Vec::new();
     for i in 0..n {
@@ -389,8 +392,8 @@ fn some_circles(random: &mut Random) -> Vec<[f64; 3]> {
     circles
 }
 
-fn circles_record(random: &mut Random, record: &mut Record) {
-    let circles = some_circles(random);
+fn circles_record(random: &mut Random, record: &mut Record, small: bool) {
+    let circles = some_circles(random, small);
     let inks = random.inks(circles.len());
     record.byte(circles.len());
     for (c, ink) in circles.iter().zip(&inks) {
@@ -561,8 +564,8 @@ fn pack_record(random: &mut Random, n: u64, proportion: f64, record: &mut Record
     refusal == 0
 }
 
-fn container_record(random: &mut Random, record: &mut Record) {
-    let circles: Vec<[f64; 3]> = some_circles(random);
+fn container_record(random: &mut Random, record: &mut Record, small: bool) {
+    let circles: Vec<[f64; 3]> = some_circles(random, small);
     let inks = random.inks(circles.len());
     let wild = random.pick(&[0, 0, 6]);
     let tight = random.below(2) == 0;
@@ -608,10 +611,8 @@ fn container_record(random: &mut Random, record: &mut Record) {
     }
 }
 
-// How many circles, masks and areas; the proportion, the factor, the circles, the masks, the areas; the refusal, the clusters, the mask of the moved circles,
-// the padding and, where they fit a layout, the circles.
-fn layout_record(given: &layouts::Lists, proportion: f64, record: &mut Record) -> layouts::Outcome {
-    let outcome = layouts::outcome(given, proportion);
+// How many circles, masks and areas; the proportion, the factor, the circles, the masks, the areas.
+fn layout_input(given: &layouts::Lists, proportion: f64, record: &mut Record) {
     record.byte(given.circles.len());
     record.short(given.masks.len());
     record.short(given.areas.len());
@@ -626,6 +627,12 @@ fn layout_record(given: &layouts::Lists, proportion: f64, record: &mut Record) -
     for a in &given.areas {
         record.float(*a);
     }
+}
+
+// A layout's input; the refusal, the clusters, the mask of the moved circles, the padding and, where they fit a layout, the circles.
+fn layout_record(given: &layouts::Lists, proportion: f64, record: &mut Record) -> layouts::Outcome {
+    let outcome = layouts::outcome(given, proportion);
+    layout_input(given, proportion, record);
     grouped(record, outcome.refusal, &outcome.seen.clusters);
     record.word(outcome.seen.moved);
     record.result(outcome.seen.padding);
@@ -635,6 +642,16 @@ fn layout_record(given: &layouts::Lists, proportion: f64, record: &mut Record) -
         }
     }
     outcome
+}
+
+// A layout's input, the price; the refusal, the amount.
+fn charge_record(given: &layouts::Lists, proportion: f64, cents: u64, record: &mut Record) -> charges::Charge {
+    let charge = charges::charge(given, proportion, cents);
+    layout_input(given, proportion, record);
+    record.word(cents);
+    record.byte(charge.refusal);
+    record.word(charge.amount);
+    charge
 }
 
 // The length of the card file, the file, and what program `card` prints for it.
@@ -687,6 +704,7 @@ fn write_random(words: &[String], out: &mut impl Write) {
     let mut random = Random(seed.wrapping_mul(0x1000_0000_01b3) ^ kind);
     let mut tally = cards::Tally::default();
     let mut layouts_tally = layouts::Tally::default();
+    let mut charges_tally = charges::Tally::default();
     let mut places = fields::Places::default();
     for _ in 0..count {
         let mut record = Record::default();
@@ -694,7 +712,7 @@ fn write_random(words: &[String], out: &mut impl Write) {
             1 => distance_record(&mut random, &mut record),
             2 => pair_record(&mut random, &mut record),
             3 => point_record(&mut random, &mut record),
-            4 => circles_record(&mut random, &mut record),
+            4 => circles_record(&mut random, &mut record, asked("small")),
             5 => areas_record(&mut random, &mut record, asked("small")),
             6 => boxes_record(&mut random, &mut record),
             7 => {
@@ -706,7 +724,7 @@ fn write_random(words: &[String], out: &mut impl Write) {
                 let proportion = random.proportion(n);
                 pack_record(&mut random, n, proportion, &mut record);
             }
-            9 => container_record(&mut random, &mut record),
+            9 => container_record(&mut random, &mut record, asked("small")),
             10 => tally.count(&card_record(&cards::file(&mut random, asked("small")), &mut record)),
             11 => {
                 let given = layouts::lists(&mut random, asked("small"));
@@ -714,6 +732,12 @@ fn write_random(words: &[String], out: &mut impl Write) {
                 layouts_tally.count(proportion, &layout_record(&given, proportion, &mut record));
             }
             12 => {
+                let given = charges::lists(&mut random, asked("small"));
+                let proportion = random.proportion(given.circles.len() as u64);
+                let cents = charges::price(&mut random);
+                charges_tally.count(cents, &charge_record(&given, proportion, cents, &mut record));
+            }
+            13 => {
                 let at = places.next(&mut random, asked("small"));
                 field_record(&places.file, at, &mut record);
             }
@@ -727,6 +751,9 @@ fn write_random(words: &[String], out: &mut impl Write) {
     if asked("stats") && kind == 11 {
         layouts_tally.print();
     }
+    if asked("stats") && kind == 12 {
+        charges_tally.print();
+    }
 }
 
 // The first that is accepted has 64 boxes.
@@ -735,7 +762,8 @@ fn write_at(words: &[String], out: &mut impl Write) {
     let (kind, count, seed) = (number(words, 1), number(words, 2), number(words, 3));
     let asked = |option: &str| words[4..].iter().any(|w| w == option);
     let mut random = Random(seed.wrapping_mul(0x1000_0000_01b3) ^ kind ^ proportion.to_bits());
-    let mut tally = layouts::Tally::default();
+    let mut layouts_tally = layouts::Tally::default();
+    let mut charges_tally = charges::Tally::default();
     let mut accepted = 0;
     while accepted < count {
         let full = accepted == 0;
@@ -748,16 +776,26 @@ fn write_at(words: &[String], out: &mut impl Write) {
             11 => {
                 let given = if full { layouts::full(&mut random) } else { layouts::lists(&mut random, asked("small")) };
                 let outcome = layout_record(&given, proportion, &mut record);
-                tally.count(proportion, &outcome);
+                layouts_tally.count(proportion, &outcome);
                 outcome.refusal == 0
+            }
+            12 => {
+                let given = if full { layouts::full(&mut random) } else { charges::lists(&mut random, asked("small")) };
+                let cents = charges::price(&mut random);
+                let charge = charge_record(&given, proportion, cents, &mut record);
+                charges_tally.count(cents, &charge);
+                charge.refusal == 0
             }
             _ => panic!("no such kind at a proportion"),
         };
         record.write(kind as u8, out);
         accepted += is_accepted as u64;
     }
-    if asked("stats") {
-        tally.print();
+    if asked("stats") && kind == 11 {
+        layouts_tally.print();
+    }
+    if asked("stats") && kind == 12 {
+        charges_tally.print();
     }
 }
 
@@ -766,6 +804,14 @@ fn write_columns(proportion: f64, out: &mut impl Write) {
         let mut record = Record::default();
         columns_record(k, proportion, &mut record);
         record.write(7, out);
+    }
+}
+
+fn write_charges(out: &mut impl Write) {
+    for (given, proportion, cents) in charges::boundaries() {
+        let mut record = Record::default();
+        charge_record(&given, proportion, cents, &mut record);
+        record.write(12, out);
     }
 }
 
@@ -788,6 +834,7 @@ fn main() {
         }
         Some("at") => write_at(&words[1..], &mut out),
         Some("columns") => write_columns(proportion(&words, 1), &mut out),
+        Some("charges") => write_charges(&mut out),
         _ => write_random(&words, &mut out),
     }
 }

@@ -16,8 +16,8 @@ use Rattle.scope.specs.Closure.{Marks, at, closure}
 use Rattle.laws.proofs.Cases.{ltb-more, or-iff, and-iff, not-iff, eqb-iff, tested, same-test}
 use Rattle.laws.proofs.Runs.{many-at-most, many-weaker-once}
 use Rattle.laws.proofs.Closure.{Walk, last, then, walk-start, marks-iff-walk, marks-link, marks-join}
-use Rattle.laws.proofs.MaskBits.{bit-past}
-use Rattle.laws.proofs.PackedRows.{bit-joined, bit-single}
+use Rattle.laws.proofs.MaskBits.{bit-past, bit-joined}
+use Rattle.laws.proofs.PackedRows.{bit-single}
 use Rattle.clustering.specs.Table.{Holds, closedTo}
 use Rattle.clustering.proofs.Rows.{holds-same, holds-set}
 

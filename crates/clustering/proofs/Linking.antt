@@ -2,7 +2,7 @@
 use Prim.Native.Nat.{ℕ, _+_, _^_, _≤_, _<_}
 use native.Mathlib.Omega.{arith}
 use native.Mathlib.Numerals.{add-one}
-use native.Mathlib.Decide.{decLt, ℕ-discrete}
+use native.Mathlib.Decide.{ℕ-discrete}
 use mathlib.Core.Path.{_≡_, refl, sym, _∙_, subst}
 use mathlib.Core.Bool.{Bool, true, false, not, _&&_, _||_, or-assoc, or-false, and-false, and-true}
 use mathlib.Core.List.{List, [], _∷_}
@@ -18,45 +18,35 @@ use Rattle.scope.specs.Runs.{bit}
 use Rattle.shapes.specs.declared.circle.Circle.{Circle}
 use Rattle.scope.specs.Links.{Region, regions, counts, share, linkedByRegions, circle}
 use Rattle.laws.proofs.Cases.{ltb-more}
-use Rattle.laws.proofs.PackedRows.{bit-common, bit-single}
+use Rattle.laws.proofs.MaskBits.{bit-common}
+use Rattle.laws.proofs.PackedRows.{bit-single}
 use Rattle.laws.proofs.Regions.{length-regions, getD-regions}
 use Rattle.laws.proofs.OneMoreRegion.{share-append}
 use Rattle.laws.proofs.Overlap.{overlap-swapped}
 use Rattle.laws.proofs.Clusters.{meet}
 use Rattle.clustering.specs.Table.{cell, mark, Shows, Holds}
-use Rattle.clustering.proofs.Table.{shows-same, put, shows-put, along, down}
+use Rattle.clustering.proofs.Table.{put, shows-put, along, down}
 use Rattle.clustering.proofs.Rows.{holds-same, holds-set}
 
 -- ---- each circle linked to itself, as far as circle i
 abbrev pub diagonal : ℕ → ℕ → ℕ → Bool
 diagonal i a b = eqb a b && ltb a i
 
-pub diagonal-start : (n : ℕ) {m : List (List ℕ)} → Shows n m (λ a b. false) → Shows n m (diagonal 0)
-diagonal-start n s = shows-same (diagonal 0) (λ a b ha hb. rw (le-ltb a 0 (omega arith), and-false (eqb a b))) s
+pub diagonal-empty : (a b : ℕ) → false ≡ diagonal 0 a b
+diagonal-empty a b = rw (le-ltb a 0 (omega arith), and-false (eqb a b))
 
 diagonal-other : (i a b : ℕ) → (a ≡ i → b ≡ i → ⊥) → diagonal i a b ≡ diagonal (i + 1) a b
-diagonal-other i a b h =
-    elim (ℕ-discrete a b) [
-      | no e ↦ rw (ne-eqb a b e)
-      | yes e ↦ rw (← e, eq-eqb a a refl)
-          (elim (decLt a i) [
-            | yes l ↦ lt-ltb a i l ∙ sym (lt-ltb a (i + 1) (omega arith))
-            | no g ↦ let d : i < a = elim (ℕ-discrete a i) [ yes p ↦ absurd (h p (sym e ∙ p)) | no p ↦ omega arith ] in
-                le-ltb a i (omega arith) ∙ sym (le-ltb a (i + 1) (omega arith))
-          ])
-    ]
+diagonal-other i a b h = elim (ℕ-discrete a i) [ yes p ↦ rw (ne-eqb a b (λ e. h p (sym e ∙ p))) | no p ↦ rw (ltb-more a i p) ]
 
+pub diagonal-whole : (n i : ℕ) → n ≤ i → (a b : ℕ) → a < n → b < n → diagonal i a b ≡ eqb a b
+diagonal-whole n i h a b ha hb = rw (lt-ltb a i (omega arith)) (and-true (eqb a b))
+
+-- circle i, in a table
 pub diagonal-step : (n i : ℕ) {m : List (List ℕ)} → i < n → Shows n m (diagonal i) → Shows n (put m i i 1) (diagonal (i + 1))
 diagonal-step n i hi s =
     shows-put i i 1 (diagonal (i + 1)) hi (λ _. rw (eq-eqb i i refl, lt-ltb i (i + 1) (omega arith))) (λ a b ha hb h. diagonal-other i a b h) s
 
-pub diagonal-end : (n i : ℕ) {m : List (List ℕ)} → n ≤ i → Shows n m (diagonal i) → Shows n m eqb
-diagonal-end n i h s = shows-same eqb (λ a b ha hb. rw (lt-ltb a i (omega arith)) (and-true (eqb a b))) s
-
--- the same in packed rows
-pub selves-start : (n : ℕ) {rows : List ℕ} → Holds n rows (λ a b. false) → Holds n rows (diagonal 0)
-selves-start n s = holds-same (diagonal 0) (λ a b ha hb. rw (le-ltb a 0 (omega arith), and-false (eqb a b))) s
-
+-- and in packed rows
 only-self : (n i j : ℕ) → i < n → eqb i j ≡ (ltb j n && eqb i j)
 only-self n i j hi = elim (ℕ-discrete i j) [
   | yes e ↦ rw (← e, eq-eqb i i refl, lt-ltb i n hi)
@@ -67,11 +57,8 @@ pub selves-step : (n i : ℕ) {rows : List ℕ} → i < n → Holds n rows (diag
 selves-step n i hi s =
     holds-set i (2 ^ i) (diagonal (i + 1))
     (λ h j. rw (bit-single i j, lt-ltb i (i + 1) (omega arith), and-true (eqb i j)) (only-self n i j hi))
-    (λ a b ha hb p. rw (ltb-more a i p))
+    (λ a b ha hb p. diagonal-other i a b (λ e _. p e))
     s
-
-pub selves-end : (n i : ℕ) {rows : List ℕ} → n ≤ i → Holds n rows (diagonal i) → Holds n rows eqb
-selves-end n i h s = holds-same eqb (λ a b ha hb. rw (lt-ltb a i (omega arith)) (and-true (eqb a b))) s
 
 -- ---- the links of the first k regions
 

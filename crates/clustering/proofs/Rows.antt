@@ -13,7 +13,8 @@ use borrow.Author.Tests.{lt-ltb, le-ltb, eq-eqb, ne-eqb}
 use Rattle.scope.specs.Runs.{bit}
 use Rattle.scope.specs.Closure.{marked, at}
 use Rattle.laws.proofs.Marks.{at-marked}
-use Rattle.laws.proofs.PackedRows.{bit-joined, bit-none}
+use Rattle.laws.proofs.MaskBits.{bit-joined}
+use Rattle.laws.proofs.PackedRows.{bit-none}
 use Rattle.clustering.specs.Table.{Holds}
 
 -- a relation that agrees is held as well

@@ -11,7 +11,8 @@ use lib.Seq.{drop-cons}
 use Rattle.algebra.proofs.Table.{every, at}
 use Rattle.scope.specs.Runs.{bit}
 use Rattle.scope.specs.Refusals.{causes, Checks, causeHolds, first, refusal}
-use Rattle.laws.proofs.PackedRows.{bit-none, bit-single, bit-joined}
+use Rattle.laws.proofs.MaskBits.{bit-joined}
+use Rattle.laws.proofs.PackedRows.{bit-none, bit-single}
 use Rattle.intake.specs.CauseWords.{Says}
 
 -- ---- one cause

@@ -7,7 +7,7 @@ ghost use lib.Dec.{eqb};
 ghost use lib.ListN.{length};
 ghost use Rattle.scope.specs.Runs.{any, bit};
 ghost use Rattle.scope.specs.Limits.{within, coordinateOk, radiusOk, sideOk};
-ghost use Rattle.scope.specs.Refusals.{causes, first, tooMany, rising, badPoint, badCentre, badRadius, badFactor, badSide, badPadding, badProportion, repeated};
+ghost use Rattle.scope.specs.Refusals.{causes, first, tooMany, rising, badPoint, badCentre, badRadius, badFactor, badSide, badPadding, badProportion, badPrice, repeated};
 ghost use Rattle.intake.specs.CauseWords.{Says, circleChecks, maskChecks, regionChecks};
 ghost use Rattle.intake.specs.Limits.{maxCircles};
 use crate::limits::MAX_CIRCLES;
@@ -17,6 +17,7 @@ use crate::limits::bad_centre;
 use crate::limits::bad_factor;
 use crate::limits::bad_padding;
 use crate::limits::bad_point;
+use crate::limits::bad_price;
 use crate::limits::bad_proportion;
 use crate::limits::bad_radius;
 use crate::limits::bad_side;
@@ -28,7 +29,7 @@ use shapes::point::Point;
 use shapes::rectangle::Rectangle;
 
 // Document 01's order: 13 goes before 2. The numbers of later requests are appended.
-const ORDER: [u8; 16] = [1, 13, 2, 3, 4, 5, 6, 7, 8, 9, 10, 11, 12, 14, 15, 16];
+const ORDER: [u8; 17] = [1, 13, 2, 3, 4, 5, 6, 7, 8, 9, 10, 11, 12, 14, 15, 16, 17];
 
 // The first cause of a word in that order, 0 where none holds.
 pub fn number_of(word: u32) -> u8
@@ -36,7 +37,7 @@ pub fn number_of(word: u32) -> u8
 {
     let order = ORDER;
     let mut i: usize = 0;
-    while i < 16 {
+    while i < 17 {
         let k = order[i];
         if has(word, k) {
             return k;
@@ -152,6 +153,13 @@ pub fn of_proportion(x: f64) -> u32
     ensures { λ r. ⌜ Says r ((16, badProportion x) ∷ []) ⌝ }
 {
     flag(bad_proportion(x), 65536)
+}
+
+// 17
+pub fn of_price(cents: u64) -> u32
+    ensures { λ r. ⌜ Says r ((17, badPrice cents) ∷ []) ⌝ }
+{
+    flag(bad_price(cents), 131072)
 }
 
 // 3, of any number of a list

@@ -2,7 +2,7 @@
 ghost use mathlib.Core.Path.{_≡_};
 ghost use Prim.Native.Nat.{min};
 ghost use Rattle.scope.specs.Limits.{coordinateOk, sideOk};
-ghost use Rattle.scope.specs.Refusals.{tooMany, tooManyRegions, badPoint, badCentre, badRadius, badFactor, badSide, badPadding, badProportion};
+ghost use Rattle.scope.specs.Refusals.{tooMany, tooManyRegions, badPoint, badCentre, badRadius, badFactor, badSide, badPadding, badProportion, badPrice};
 ghost use Rattle.intake.specs.Limits.{maxCircles};
 use shapes::circle::Circle;
 use shapes::point::Point;
@@ -24,6 +24,9 @@ const MAX_PADDING: f64 = 67108864.0;
 const MIN_PROPORTION: f64 = 0.25;
 
 const MAX_PROPORTION: f64 = 4.0;
+
+// In cents, from 1.
+const MAX_PRICE: u64 = 100;
 
 // The proportion of document 01, which `card` keeps.
 pub const GOLDEN: f64 = 1.618;
@@ -107,4 +110,11 @@ pub(crate) fn bad_proportion(x: f64) -> bool
     ensures { λ r. ⌜ r ≡ badProportion x ⌝ }
 {
     !(MIN_PROPORTION <= x && x <= MAX_PROPORTION)
+}
+
+// Refusal 17.
+pub(crate) fn bad_price(cents: u64) -> bool
+    ensures { λ r. ⌜ r ≡ badPrice cents ⌝ }
+{
+    !(1 <= cents && cents <= MAX_PRICE)
 }

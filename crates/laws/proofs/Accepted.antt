@@ -1,4 +1,5 @@
--- A card is accepted exactly if its values keep every limit and range, circle by circle; a layout, exactly if its card is and the proportion is in range.
+-- A card is accepted exactly if its values keep every limit and range, circle by circle; a layout, exactly if its card is and the proportion is in range;
+-- a charge, exactly if its layout is and the price is in range.
 use Prim.Native.Nat.{ℕ, zero, suc, _≤_, _<_}
 use mathlib.Core.Path.{_≡_, refl, sym, ap, _∙_}
 use native.Mathlib.Omega.{arith}
@@ -12,15 +13,15 @@ use Rattle.shapes.specs.declared.point.Point.{Point}
 use Rattle.shapes.specs.declared.circle.Circle.{Circle}
 use Rattle.scope.specs.Runs.{any}
 use Rattle.scope.specs.Numbers.{golden}
-use Rattle.scope.specs.Limits.{circleCap, regionCap, coordinateOk, radiusOk, factorOk, proportionOk}
-use Rattle.scope.specs.Refusals.{tooMany, unequal, tooManyRegions, badPoint, badCentre, badRadius, rising, badFactor, repeated, inks, sameInk, badProportion, cardRefusal, layoutRefusal}
+use Rattle.scope.specs.Limits.{circleCap, regionCap, coordinateOk, radiusOk, factorOk, proportionOk, priceOk}
+use Rattle.scope.specs.Refusals.{tooMany, unequal, tooManyRegions, badPoint, badCentre, badRadius, rising, badFactor, repeated, inks, sameInk, badProportion, badPrice, cardRefusal, layoutRefusal, stockRefusal}
 use Rattle.scope.specs.Links.{circle, nowhere}
 use Rattle.scope.specs.Computing.{computing}
 use Rattle.laws.specs.Limits.{WithinLimits, SameInk}
 use Rattle.laws.proofs.Cases.{or-iff, and-iff, not-not-iff, not-ltb-iff, eqb-iff}
 use Rattle.laws.proofs.Runs.{any-at, none-at}
 use Rattle.laws.proofs.FrontToBack.{last-check, last-passes, last-accepts-iff}
-use Rattle.laws.proofs.EntryPoints.{card-reads, layout-reads}
+use Rattle.laws.proofs.EntryPoints.{card-reads, layout-reads, stock-reads}
 
 -- ---- each cause, denied
 
@@ -55,6 +56,10 @@ not-bad-factor-iff x = not-not-iff (factorOk x)
 pub not-bad-proportion-iff : (x : Float) → (¬ T (badProportion x)) ↔ T (proportionOk x)
 unfolding badProportion
 not-bad-proportion-iff x = not-not-iff (proportionOk x)
+
+pub not-bad-price-iff : (cents : ℕ) → (¬ T (badPrice cents)) ↔ T (priceOk cents)
+unfolding badPrice
+not-bad-price-iff cents = not-not-iff (priceOk cents)
 
 -- the inks of circles, one by one; that of a circle that is nowhere is 0
 pub length-inks : (cs : List Circle) → length (inks cs) ≡ length cs
@@ -170,3 +175,15 @@ module _ (cs : List Circle) (factor : Float) (masks : List ℕ) (areas : List Fl
   pub layout-at-golden : layoutRefusal cs factor masks areas golden ≡ cardRefusal cs factor masks areas
   unfolding computing
   layout-at-golden = layout-takes golden ∙ last-passes (cardRefusal cs factor masks areas) 16
+
+-- ---- the charge: its layout's number, and where that is 0, what the price decides
+module _ (cs : List Circle) (factor : Float) (masks : List ℕ) (areas : List Float) (proportion : Float) (cents : ℕ) where
+  pub stock-takes : stockRefusal cs factor masks areas proportion cents
+      ≡ cond (eqb (layoutRefusal cs factor masks areas proportion) 0) (cond (badPrice cents) 17 0) (layoutRefusal cs factor masks areas proportion)
+  stock-takes = rw (stock-reads cs factor masks areas proportion cents .runs, layout-reads cs factor masks areas proportion .runs) (last-check _ 17 (badPrice cents) tt)
+
+  pub stock-accepted-iff : (stockRefusal cs factor masks areas proportion cents ≡ 0) ↔ ((layoutRefusal cs factor masks areas proportion ≡ 0) × T (priceOk cents))
+  stock-accepted-iff =
+      let each = last-accepts-iff (layoutRefusal cs factor masks areas proportion) 17 (badPrice cents) (omega arith) in
+      let inside = not-bad-price-iff cents in
+      rw stock-takes (λ e. (each .0 e .0, inside .0 (each .0 e .1)), λ h. each .1 (h .0, inside .1 (h .1)))

@@ -12,13 +12,14 @@ use Rattle.shapes.specs.declared.point.Point.{Point}
 use Rattle.shapes.specs.declared.circle.Circle.{Circle}
 use Rattle.shapes.specs.declared.rectangle.Rectangle.{Rectangle}
 use Rattle.scope.specs.Runs.{filled}
-use Rattle.scope.specs.Refusals.{refused, given, answer, pointsRefusal, pairRefusal, circlePointRefusal, circlesRefusal, regionsRefusal, columnsRefusal, packRefusal, containerRefusal, layoutRefusal, writerRefusal, textRefusal}
+use Rattle.scope.specs.Refusals.{refused, given, answer, pointsRefusal, pairRefusal, circlePointRefusal, circlesRefusal, regionsRefusal, columnsRefusal, packRefusal, containerRefusal, layoutRefusal, stockRefusal, writerRefusal, textRefusal}
 use Rattle.scope.specs.Distance.{rootRefusal, rootAnswer, distance, distanceAnswer, circleDistance, circleDistanceAnswer, contains, containsAnswer, containsPoint, containsPointAnswer, intersects, intersectsAnswer}
 use Rattle.scope.specs.Links.{regions}
 use Rattle.scope.specs.Groups.{Clusters, Grouping, clusters, plainClusters, refusedGrouping, acceptedGrouping, grouping, areaGrouping, plainGrouping}
 use Rattle.scope.specs.Packing.{Packing, columns, columnsAnswer, packed, refusedPacking, acceptedPacking, packing, skylinePack}
 use Rattle.scope.specs.Container.{Contained, settled, refusedContainer, containedAnswer, contained}
 use Rattle.scope.specs.Layout.{Layout, arranged, refusedLayout, ifAccepted, layout}
+use Rattle.scope.specs.CardStock.{Charge, refusedCharge, stockFor, charged, cardStock}
 use Rattle.scope.specs.CardFile.{tag, body, fieldOf, fieldRefusal, readField, fieldBody, Card}
 use Rattle.scope.specs.Print.{cardText}
 use Rattle.scope.specs.Saving.{Saved, refusedSaving, acceptedSaving, saving, fileOf, writeCard, writeText}
@@ -124,6 +125,16 @@ unfolding layout ifAccepted arranged refusedLayout
 layout-answers cs factor masks areas proportion =
     by-number (λ l. l .result .refusal) (λ k. refusedLayout k cs) (λ k. ifAccepted k cs (arranged proportion cs factor (regions masks areas))) refl (λ k. refl) (λ k. refl)
     (layoutRefusal cs factor masks areas proportion)
+
+-- ---- card stock: an amount of 0
+
+pub stock-answers : (cs : List Circle) (factor : Float) (masks : List ℕ) (areas : List Float) (proportion : Float) (cents : ℕ)
+    → Answers (λ (a : Charge). a .refusal) (stockRefusal cs factor masks areas proportion cents) (cardStock cs factor masks areas proportion cents)
+    refusedCharge (record { refusal = 0; amount = stockFor (layout cs factor masks areas proportion .circles) cents })
+unfolding cardStock charged
+stock-answers cs factor masks areas proportion cents =
+    by-number (λ a. a .refusal) refusedCharge (λ k. charged k (stockFor (layout cs factor masks areas proportion .circles) cents)) refl (λ k. refl) (λ k. refl)
+    (stockRefusal cs factor masks areas proportion cents)
 
 -- ---- saved: nothing written, the lent list as it was
 

@@ -15,19 +15,20 @@ use Rattle.scope.specs.Links.{regions}
 use Rattle.scope.specs.Groups.{Grouping, plainClusters, refusedGrouping, acceptedGrouping}
 use Rattle.scope.specs.Packing.{Packing, packed, refusedPacking, acceptedPacking}
 use Rattle.scope.specs.Container.{Contained, settled, refusedContainer}
-use Rattle.scope.specs.Layout.{Layout, arranged, refusedLayout}
+use Rattle.scope.specs.Layout.{Layout, arranged, refusedLayout, layout}
+use Rattle.scope.specs.CardStock.{Charge, refusedCharge, stockFor}
 use Rattle.scope.specs.CardFile.{floatOf}
 use Rattle.scope.specs.Saving.{Saved, refusedSaving, acceptedSaving, fileOf, cardOf}
-use Rattle.scope.specs.Twins.{countedGrouping, firstGrouping, firstPacking, withOthers, firstLayout, withRest, firstContained, firstWritten}
+use Rattle.scope.specs.Twins.{countedGrouping, firstGrouping, firstPacking, withOthers, firstLayout, withRest, firstContained, firstWritten, firstStock}
 use Rattle.laws.specs.BothWays.{Reads}
 use Rattle.laws.specs.Answers.{Answers}
-use Rattle.laws.specs.ByValue.{firstCirclesChecks, firstPackChecks, firstContainerChecks, firstLayoutChecks, firstWriterChecks}
+use Rattle.laws.specs.ByValue.{firstCirclesChecks, firstPackChecks, firstContainerChecks, firstLayoutChecks, firstStockChecks, firstWriterChecks}
 use Rattle.laws.proofs.Cases.{is-false}
 use Rattle.laws.proofs.Accepted.{not-too-many-iff}
 use Rattle.laws.proofs.Counted.{few, by-many}
 use Rattle.laws.proofs.FrontToBack.{front-to-back-reads}
-use Rattle.laws.proofs.EntryPoints.{circles-reads, pack-reads, container-reads, layout-reads, writer-reads}
-use Rattle.laws.proofs.AfterRefusal.{plain-grouping-answers, packing-answers, container-answers, layout-answers, write-card-answers}
+use Rattle.laws.proofs.EntryPoints.{circles-reads, pack-reads, container-reads, layout-reads, stock-reads, writer-reads}
+use Rattle.laws.proofs.AfterRefusal.{plain-grouping-answers, packing-answers, container-answers, layout-answers, stock-answers, write-card-answers}
 
 module _ {A : Type 0} {numberOf : A → ℕ} {refuse : ℕ → A} where
   -- a count that is too large before a call
@@ -111,6 +112,20 @@ module _ (n : ℕ) (cs : List Circle) (factor : Float) (masks : List ℕ) (areas
 
   pub first-layout-reads : Reads (firstLayout n cs factor masks areas proportion .result .refusal) (firstLayoutChecks n cs factor masks areas proportion)
   first-layout-reads = rw (first-layout-answers .says) (front-to-back-reads _ tt)
+
+-- ---- card stock: an amount of 0
+
+module _ (n : ℕ) (cs : List Circle) (factor : Float) (masks : List ℕ) (areas : List Float) (proportion : Float) (cents : ℕ) where
+  pub first-stock-answers :
+      Answers (λ (a : Charge). a .refusal) (frontToBack (firstStockChecks n cs factor masks areas proportion cents)) (firstStock n cs factor masks areas proportion cents)
+      refusedCharge (record { refusal = 0; amount = stockFor (layout (take n cs) factor masks areas proportion .circles) cents })
+  unfolding firstStock
+  first-stock-answers =
+      counted n _ _ (first-few n cs) (λ k. refl)
+      (rw (stock-reads (take n cs) factor masks areas proportion cents .runs) at (stock-answers (take n cs) factor masks areas proportion cents))
+
+  pub first-stock-reads : Reads (firstStock n cs factor masks areas proportion cents .refusal) (firstStockChecks n cs factor masks areas proportion cents)
+  first-stock-reads = rw (first-stock-answers .says) (front-to-back-reads _ tt)
 
 -- ---- saved: nothing written, the lent list as it was
 

@@ -12,7 +12,7 @@ use Rattle.shapes.specs.declared.circle.Circle.{Circle}
 use Rattle.shapes.specs.declared.rectangle.Rectangle.{Rectangle}
 use Rattle.scope.specs.Runs.{any}
 use Rattle.scope.specs.Limits.{circleCap}
-use Rattle.scope.specs.Refusals.{causes, causeHolds, first, refusal, frontToBack, tooMany, unequal, tooManyRegions, badPoint, badCentre, badRadius, rising, badSide, badPadding, sameInk, pointsRefusal, pairRefusal, circlePointRefusal, circlesRefusal, regionsRefusal, columnsRefusal, packRefusal, containerRefusal, cardChecks, cardRefusal, layoutRefusal, tooShort, writerRefusal, textRefusal, badProportion}
+use Rattle.scope.specs.Refusals.{causes, causeHolds, first, refusal, frontToBack, tooMany, unequal, tooManyRegions, badPoint, badCentre, badRadius, rising, badSide, badPadding, sameInk, pointsRefusal, pairRefusal, circlePointRefusal, circlesRefusal, regionsRefusal, columnsRefusal, packRefusal, containerRefusal, cardChecks, cardRefusal, layoutChecks, layoutRefusal, stockRefusal, tooShort, writerRefusal, textRefusal, badProportion, badPrice}
 use Rattle.scope.specs.Distance.{noRoot, rootRefusal}
 use Rattle.scope.specs.CardFile.{Card, tag, headCut, bodyCut, unknown, wrongLength, misplaced, fieldRefusal, firstRefusal, nextRefusal}
 use Rattle.laws.specs.BothWays.{Reads}
@@ -65,9 +65,14 @@ unfolding cardRefusal refusal first causeHolds causes frontToBack
 card-reads cs factor masks areas = as-front-to-back _ tt (simp or-false)
 
 pub layout-reads : (cs : List Circle) (factor : Float) (masks : List ℕ) (areas : List Float) (proportion : Float)
-    → Reads (layoutRefusal cs factor masks areas proportion) (cardChecks cs factor masks areas ++ (16, badProportion proportion) ∷ [])
+    → Reads (layoutRefusal cs factor masks areas proportion) (layoutChecks cs factor masks areas proportion)
 unfolding layoutRefusal refusal first causeHolds causes frontToBack
 layout-reads cs factor masks areas proportion = as-front-to-back _ tt (simp or-false)
+
+pub stock-reads : (cs : List Circle) (factor : Float) (masks : List ℕ) (areas : List Float) (proportion : Float) (cents : ℕ)
+    → Reads (stockRefusal cs factor masks areas proportion cents) (layoutChecks cs factor masks areas proportion ++ (17, badPrice cents) ∷ [])
+unfolding stockRefusal refusal first causeHolds causes frontToBack
+stock-reads cs factor masks areas proportion cents = as-front-to-back _ tt (simp or-false)
 
 pub writer-reads : (cs : List Circle) (factor : Float) (masks : List ℕ) (areas : List Float) (room size : ℕ)
     → Reads (writerRefusal cs factor masks areas room size) (cardChecks cs factor masks areas ++ (15, tooShort room size) ∷ [])

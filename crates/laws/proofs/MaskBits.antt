@@ -1,15 +1,16 @@
--- Bits of a mask under union, and under a single bit put in or taken out.
-use mathlib.Core.Path.{_≡_, sym, ap, _∙_, subst}
-use mathlib.Core.Logic.{_↔_, inl, inr}
-use Prim.Native.Nat.{ℕ, suc, _+_, _-_, _*_, _/_, _%_, _^_, _≤_, _<_, max}
+-- Bits of two masks combined, by one law of the operations that go digit by digit, and of a mask with a single bit put in or taken out.
+use mathlib.Core.Path.{_≡_, refl, sym, ap, _∙_, subst}
+use mathlib.Core.Bool.{Bool, true, false, not, _&&_, _||_}
+use mathlib.Core.Logic.{_↔_, inl, inr, ⊎-elim}
+use Prim.Native.Nat.{ℕ, zero, suc, _+_, _-_, _*_, _/_, _%_, _^_, _≤_, _<_, min, max}
 use native.Mathlib.Nat.{pow-succ', add-mul-div-left, add-div-right, div-div-eq-div-mul, div-eq-of-lt, le-div-iff-mul-le, zero-add, one-mul, sub-add-cancel}
 use native.Mathlib.Omega.{arith}
-use lib.Bits.{bitOr, or-step, or-shr}
-use lib.Dec.{T}
+use lib.Bits.{bitAnd, bitOr, bitXor, differ, and-step, and-shr, or-step, or-shr, xor-step, xor-shr}
+use lib.Dec.{T, eqb}
 use lib.Pow.{pow-pos, pow-add}
 use Rattle.algebra.proofs.Size.{either}
 use Rattle.scope.specs.Runs.{bit}
-use Rattle.laws.proofs.Cases.{eqb-iff}
+use Rattle.laws.proofs.Cases.{or-iff, eqb-iff}
 
 -- ---- a bit as a digit, 0 or 1
 abbrev pub digit : ℕ → ℕ → ℕ
@@ -22,30 +23,56 @@ bit-iff m i = eqb-iff (digit m i) 1
 clear-digit : (m i : ℕ) → ¬ T (bit m i) → digit m i ≡ 0
 clear-digit m i h = elim (either (digit m i) 1) [ inl l ↦ omega arith | inr l ↦ absurd (h (bit-iff m i .1 (omega arith))) ]
 
--- ---- union
-larger-is-one : (x y : ℕ) → max (x % 2) (y % 2) ≡ 1 → (x % 2 ≡ 1 → ⊥) → y % 2 ≡ 1
-larger-is-one x y h f = elim (either (x % 2) 1) [ inl l ↦ omega arith | inr l ↦ absurd (f (omega arith)) ]
+-- ---- two masks combined by an operation that goes digit by digit
+
+-- two digits: four cases
+two-digits : (P : ℕ → ℕ → Type 0) → P 0 0 → P 0 1 → P 1 0 → P 1 1 → (r s : ℕ) → r < 2 → s < 2 → P r s
+two-digits P a b c d r s h k = one-digit (λ n. P n s) (one-digit (P 0) a b s k) (one-digit (P 1) c d s k) r h
+  where
+    one-digit : (Q : ℕ → Type 0) → Q 0 → Q 1 → (n : ℕ) → n < 2 → Q n
+    one-digit Q x y zero l = x
+    one-digit Q x y (suc zero) l = y
+    one-digit Q x y (suc (suc n)) l = absurd (omega arith)
+
+combined-digit : (op f : ℕ → ℕ → ℕ) → ((a b : ℕ) → op a b ≡ op (a / 2) (b / 2) * 2 + f (a % 2) (b % 2)) → ((a b k : ℕ) → op a b / 2 ^ k ≡ op (a / 2 ^ k) (b / 2 ^ k))
+    → ((r s : ℕ) → r < 2 → s < 2 → f r s < 2) → (a b q : ℕ) → digit (op a b) q ≡ f (digit a q) (digit b q)
+combined-digit op f step shr small a b q = rw (shr a b q, step (a / 2 ^ q) (b / 2 ^ q)) (omega (arith, small (digit a q) (digit b q) (omega arith) (omega arith)))
+
+-- the same in bits, of an f that is g on the four pairs of digits
+combined-bit : (f : ℕ → ℕ → ℕ) (g : Bool → Bool → Bool)
+    → eqb (f 0 0) 1 ≡ g false false → eqb (f 0 1) 1 ≡ g false true → eqb (f 1 0) 1 ≡ g true false → eqb (f 1 1) 1 ≡ g true true
+    → (a b c q : ℕ) → digit c q ≡ f (digit a q) (digit b q) → bit c q ≡ g (bit a q) (bit b q)
+unfolding bit
+combined-bit f g w x y z a b c q e = rw e (two-digits (λ r s. eqb (f r s) 1 ≡ g (eqb r 1) (eqb s 1)) w x y z (digit a q) (digit b q) (omega arith) (omega arith))
 
 pub or-digit : (a b q : ℕ) → digit (bitOr a b) q ≡ max (digit a q) (digit b q)
-or-digit a b q = ap (λ (n : ℕ). n % 2) (or-shr a b q ∙ or-step (a / 2 ^ q) (b / 2 ^ q)) ∙ last (bitOr (a / 2 ^ q / 2) (b / 2 ^ q / 2)) (a / 2 ^ q) (b / 2 ^ q)
-  where
-    last : (h x y : ℕ) → (h * 2 + max (x % 2) (y % 2)) % 2 ≡ max (x % 2) (y % 2)
-    last h x y = omega arith
+or-digit = combined-digit bitOr max or-step or-shr (λ r s h k. omega arith)
+
+and-digit : (a b q : ℕ) → digit (bitAnd a b) q ≡ min (digit a q) (digit b q)
+and-digit = combined-digit bitAnd min and-step and-shr (λ r s h k. omega arith)
+
+xor-digit : (a b q : ℕ) → digit (bitXor a b) q ≡ differ (digit a q) (digit b q)
+xor-digit = combined-digit bitXor differ xor-step xor-shr (two-digits (λ r s. differ r s < 2) (omega arith) (omega arith) (omega arith) (omega arith))
+
+pub bit-joined : (a b j : ℕ) → bit (bitOr a b) j ≡ (bit a j || bit b j)
+bit-joined a b j = combined-bit max _||_ refl refl refl refl a b (bitOr a b) j (or-digit a b j)
+
+-- what two masks both hold
+pub bit-common : (a b j : ℕ) → bit (bitAnd a b) j ≡ (bit a j && bit b j)
+bit-common a b j = combined-bit min _&&_ refl refl refl refl a b (bitAnd a b) j (and-digit a b j)
+
+-- what one mask holds and another does not
+pub bit-other : (a b j : ℕ) → bit (bitXor (bitOr a b) b) j ≡ (bit a j && not (bit b j))
+bit-other a b j = combined-bit (λ r s. differ (max r s) s) (λ x y. x && not y) refl refl refl refl a b (bitXor (bitOr a b) b) j (rw (xor-digit (bitOr a b) b j, or-digit a b j))
 
 pub bit-of-union : (a b q : ℕ) → T (bit (bitOr a b) q) → ¬ T (bit a q) → T (bit b q)
-bit-of-union a b q h f = bit-iff b q .1 (larger-is-one (a / 2 ^ q) (b / 2 ^ q) (sym (or-digit a b q) ∙ bit-iff (bitOr a b) q .0 h) (λ e. f (bit-iff a q .1 e)))
+bit-of-union a b q h f = ⊎-elim (λ t. absurd (f t)) (λ t. t) (or-iff (bit a q) (bit b q) .0 (rw (bit-joined a b q) at h))
 
 pub union-left : (a b q : ℕ) → T (bit a q) → T (bit (bitOr a b) q)
-union-left a b q h = bit-iff (bitOr a b) q .1 (or-digit a b q ∙ top (a / 2 ^ q) (b / 2 ^ q) (bit-iff a q .0 h))
-  where
-    top : (x y : ℕ) → x % 2 ≡ 1 → max (x % 2) (y % 2) ≡ 1
-    top x y h = omega arith
+union-left a b q h = rw (bit-joined a b q) (or-iff (bit a q) (bit b q) .1 (inl h))
 
 pub union-right : (a b q : ℕ) → T (bit b q) → T (bit (bitOr a b) q)
-union-right a b q h = bit-iff (bitOr a b) q .1 (or-digit a b q ∙ top (a / 2 ^ q) (b / 2 ^ q) (bit-iff b q .0 h))
-  where
-    top : (x y : ℕ) → y % 2 ≡ 1 → max (x % 2) (y % 2) ≡ 1
-    top x y h = omega arith
+union-right a b q h = rw (bit-joined a b q) (or-iff (bit a q) (bit b q) .1 (inr h))
 
 -- ---- bit i put in: the digits below, at and above it
 put-below : (m j d : ℕ) → digit (m + 2 ^ (j + suc d)) j ≡ digit m j

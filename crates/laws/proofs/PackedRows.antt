@@ -1,5 +1,5 @@
 -- Packed rows, of any width: a packed row unpacks to the same marks, and two joined hold exactly the marks of either.
-use Prim.Native.Nat.{ℕ, zero, suc, _+_, _-_, _*_, _/_, _%_, _^_, _<_, min, max}
+use Prim.Native.Nat.{ℕ, zero, suc, _+_, _-_, _*_, _/_, _%_, _^_, _<_}
 use native.Mathlib.Omega.{arith}
 use native.Mathlib.Nat.{pow-succ', div-lt-iff-lt-mul, div-add-mod', mod-lt, mod-eq-of-lt}
 use native.Mathlib.Decide.{ℕ-discrete}
@@ -7,7 +7,7 @@ use native.Mathlib.Numerals.{add-one}
 use mathlib.Core.Path.{_≡_, refl, sym, ap, _∙_, subst}
 use mathlib.Core.Bool.{Bool, true, false, not, _&&_, _||_, and-true, and-false}
 use mathlib.Core.List.{List}
-use lib.Bits.{bitAnd, bitOr, bitXor, differ, and-step, and-shr, xor-step, xor-shr}
+use lib.Bits.{bitOr}
 use lib.Dec.{T, eqb, ltb}
 use lib.ListN.{length, getD}
 use lib.Pow.{pow-lt, pow-pos}
@@ -17,69 +17,7 @@ use Rattle.scope.specs.Runs.{tab, gather, bit}
 use Rattle.scope.specs.PackedRows.{packedRow, unpackedRow, packedWords, markOf, joinedWords}
 use Rattle.laws.proofs.Cases.{ltb-more, eqb-iff, tested, is-true, is-false, same-test}
 use Rattle.laws.proofs.Runs.{length-tab, getD-tab, tab-equal}
-use Rattle.laws.proofs.MaskBits.{digit, or-digit, bit-put, bit-put-other, bit-taken, bit-left, bit-past, bit-of-power, power-has-one-bit}
-
-and-digit : (a b q : ℕ) → digit (bitAnd a b) q ≡ min (digit a q) (digit b q)
-and-digit a b q = ap (λ (n : ℕ). n % 2) (and-shr a b q ∙ and-step (a / 2 ^ q) (b / 2 ^ q)) ∙ last (bitAnd (a / 2 ^ q / 2) (b / 2 ^ q / 2)) (a / 2 ^ q) (b / 2 ^ q)
-  where
-    last : (h x y : ℕ) → (h * 2 + min (x % 2) (y % 2)) % 2 ≡ min (x % 2) (y % 2)
-    last h x y = omega arith
-
--- ---- joined
-
-pub bit-joined : (a b j : ℕ) → bit (bitOr a b) j ≡ (bit a j || bit b j)
-unfolding bit
-bit-joined a b j = rw (or-digit a b j) (larger (digit a j) (digit b j) (omega arith) (omega arith))
-  where
-    larger : (r s : ℕ) → r < 2 → s < 2 → eqb (max r s) 1 ≡ (eqb r 1 || eqb s 1)
-    larger zero zero h k = refl
-    larger zero (suc zero) h k = refl
-    larger (suc zero) zero h k = refl
-    larger (suc zero) (suc zero) h k = refl
-    larger zero (suc (suc s)) h k = absurd (omega arith)
-    larger (suc zero) (suc (suc s)) h k = absurd (omega arith)
-    larger (suc (suc r)) s h k = absurd (omega arith)
-
--- what two rows both hold
-pub bit-common : (a b j : ℕ) → bit (bitAnd a b) j ≡ (bit a j && bit b j)
-unfolding bit
-bit-common a b j = rw (and-digit a b j) (smaller (digit a j) (digit b j) (omega arith) (omega arith))
-  where
-    smaller : (r s : ℕ) → r < 2 → s < 2 → eqb (min r s) 1 ≡ (eqb r 1 && eqb s 1)
-    smaller zero zero h k = refl
-    smaller zero (suc zero) h k = refl
-    smaller (suc zero) zero h k = refl
-    smaller (suc zero) (suc zero) h k = refl
-    smaller zero (suc (suc s)) h k = absurd (omega arith)
-    smaller (suc zero) (suc (suc s)) h k = absurd (omega arith)
-    smaller (suc (suc r)) s h k = absurd (omega arith)
-
--- what one row holds and another does not
-differ-digits : (r s : ℕ) → r < 2 → s < 2 → differ r s < 2
-differ-digits zero s h k = k
-differ-digits (suc r) zero h k = h
-differ-digits (suc r) (suc s) h k = differ-digits r s (omega arith) (omega arith)
-
-xor-digit : (a b q : ℕ) → digit (bitXor a b) q ≡ differ (digit a q) (digit b q)
-xor-digit a b q =
-    ap (λ (n : ℕ). n % 2) (xor-shr a b q ∙ xor-step (a / 2 ^ q) (b / 2 ^ q))
-    ∙ last (bitXor (a / 2 ^ q / 2) (b / 2 ^ q / 2)) (differ (digit a q) (digit b q)) (differ-digits (digit a q) (digit b q) (omega arith) (omega arith))
-  where
-    last : (h d : ℕ) → d < 2 → (h * 2 + d) % 2 ≡ d
-    last h d l = omega arith
-
-pub bit-other : (a b j : ℕ) → bit (bitXor (bitOr a b) b) j ≡ (bit a j && not (bit b j))
-unfolding bit
-bit-other a b j = rw (xor-digit (bitOr a b) b j, or-digit a b j) (left (digit a j) (digit b j) (omega arith) (omega arith))
-  where
-    left : (r s : ℕ) → r < 2 → s < 2 → eqb (differ (max r s) s) 1 ≡ (eqb r 1 && not (eqb s 1))
-    left zero zero h k = refl
-    left zero (suc zero) h k = refl
-    left (suc zero) zero h k = refl
-    left (suc zero) (suc zero) h k = refl
-    left zero (suc (suc s)) h k = absurd (omega arith)
-    left (suc zero) (suc (suc s)) h k = absurd (omega arith)
-    left (suc (suc r)) s h k = absurd (omega arith)
+use Rattle.laws.proofs.MaskBits.{bit-joined, bit-put, bit-put-other, bit-taken, bit-left, bit-past, bit-of-power, power-has-one-bit}
 
 -- ---- no place and a single place
 

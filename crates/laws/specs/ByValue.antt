@@ -8,7 +8,7 @@ use Rattle.shapes.specs.declared.circle.Circle.{Circle}
 use Rattle.shapes.specs.declared.rectangle.Rectangle.{Rectangle}
 use Rattle.scope.specs.Runs.{any}
 use Rattle.scope.specs.Refusals.{Checks, tooMany, unequal, tooManyRegions, badPoint, badCentre, badRadius, rising}
-use Rattle.scope.specs.Refusals.{badFactor, badSide, badPadding, sameInk, tooShort, badProportion}
+use Rattle.scope.specs.Refusals.{badFactor, badSide, badPadding, sameInk, tooShort, badProportion, badPrice}
 use Rattle.scope.specs.CardFile.{floatOf}
 use Rattle.scope.specs.Saving.{fileOf, cardOf}
 
@@ -36,6 +36,10 @@ firstCardChecks n cs factor masks areas =
 -- the whole layout
 abbrev pub firstLayoutChecks : ℕ → List Circle → Float → List ℕ → List Float → Float → Checks
 firstLayoutChecks n cs factor masks areas proportion = firstCardChecks n cs factor masks areas ++ (16, badProportion proportion) ∷ []
+
+-- the charge for card stock
+abbrev pub firstStockChecks : ℕ → List Circle → Float → List ℕ → List Float → Float → ℕ → Checks
+firstStockChecks n cs factor masks areas proportion cents = firstLayoutChecks n cs factor masks areas proportion ++ (17, badPrice cents) ∷ []
 
 -- `write_card`: an area is that of its pattern, and the size that of the file of the first n circles
 abbrev pub firstWriterChecks : ℕ → List Circle → Float → List ℕ → List ℕ → List ℕ → Checks

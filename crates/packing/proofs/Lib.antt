@@ -4,3 +4,4 @@ pub mod ColumnTable
 pub mod Counting
 pub mod Packings
 pub mod PackedBoxes
+pub mod RaisedWord

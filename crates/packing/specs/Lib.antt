@@ -1,3 +1,4 @@
 pub mod Answers
 pub mod Sides
 pub mod Lists
+pub mod Raised

@@ -6,9 +6,9 @@ ghost use Prim.Native.Nat.{_≤_, _<_};
 ghost use lib.Dec.{T, ltb};
 ghost use lib.ListN.{length};
 ghost use lib.Ieee.{nan, eq};
-ghost use Rattle.scope.specs.Numbers.{_<ᶠ_, _*ᶠ_, nought, golden, whole, raised};
+ghost use Rattle.scope.specs.Numbers.{_<ᶠ_, _*ᶠ_, nought, golden};
 ghost use Rattle.scope.specs.Runs.{tab, filled};
-ghost use Rattle.scope.specs.Limits.{circleCap, within, proportionOk};
+ghost use Rattle.scope.specs.Limits.{circleCap, proportionOk};
 ghost use Rattle.scope.specs.Packing.{
   noRectangle,
   widthAt,
@@ -28,6 +28,7 @@ ghost use Rattle.intake.specs.Limits.{maxCircles};
 ghost use Rattle.intake.specs.Columns.{at, overwritten};
 ghost use Rattle.packing.specs.Answers.{counted, packedBoxes};
 ghost use Rattle.packing.specs.Sides.{sidesNumber, sidedPacking, packedXs, packedYs, unlessRefused, boxAt};
+ghost use Rattle.packing.specs.Raised.{raisedWord};
 ghost use Rattle.packing.specs.Lists.{At, Lined, InLines, lineOf, FullLength};
 use geometry::lengths::root_or_nan;
 use intake::causes::number_of;
@@ -42,6 +43,7 @@ use intake::runs::split_sides;
 use shapes::extremes::maximum;
 use shapes::point::Point;
 use shapes::rectangle::Rectangle;
+use std::num::truncating_f64_to_u64;
 
 // A number of columns, or a refusal's number.
 pub enum ColumnCount {
@@ -454,19 +456,30 @@ fn columns_of(k: usize, proportion: f64) -> usize
     if proportion == GOLDEN {
         return golden_columns(k);
     }
-    raised(root_or_nan(k as f64) * root_or_nan(proportion))
+    raised(root_or_nan(k as f64) * root_or_nan(proportion)) as usize
 }
 
-// The least whole number that is not below x, found by counting: it is 16 at most.
-fn raised(x: f64) -> usize
-    requires { ⌜ T (within nought (whole 16) x) ⌝ }
-    ensures { λ r. ⌜ r ≡ raised x ⌝ }
+// The least whole number that is not below x, and the largest u64 where that is past them all.
+// 0 for NaN, for the infinities and for what is not above 0.
+pub fn raised(x: f64) -> u64
+    ensures { λ r. ⌜ r ≡ raisedWord x ⌝ }
 {
-    let mut c: usize = 0;
-    while (c as f64) < x {
-        c += 1;
+    if x > 0.0 {
+        // 2^64
+        if x < 18446744073709551616.0 {
+            let whole = truncating_f64_to_u64(x);
+            // from 2^53 on an f64 has no fraction
+            if x < 9007199254740992.0 && (whole as f64) < x {
+                return whole + 1;
+            }
+            return whole;
+        }
+        // 1.0 / 0.0 is the infinity
+        if x < 1.0 / 0.0 {
+            return u64::MAX;
+        }
     }
-    c
+    0
 }
 
 fn golden_columns(k: usize) -> usize

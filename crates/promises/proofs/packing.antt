@@ -19,3 +19,4 @@ pub mod Raised
 pub mod Proportions
 pub mod ClusterBoxes
 pub mod Arrangement
+pub mod Sheet

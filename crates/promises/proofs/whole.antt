@@ -6,3 +6,4 @@ pub mod PackingAccepts
 pub mod Duds
 pub mod Lengths
 pub mod Inks
+pub mod CardStock

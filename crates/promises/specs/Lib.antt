@@ -1,4 +1,5 @@
 pub mod Demand3
 pub mod Duds
 pub mod Inks
+pub mod CardStock
 pub mod SavedCards

@@ -1,1 +1,2 @@
-// Theorems about the definitions of `scope`: the four promises of a layout, that ink numbers travel with circles, and that saved cards come back. No functions.
+// Theorems about the definitions of `scope`: the four promises of a layout, that ink numbers travel with circles, that saved cards come back, and how large a
+// finished sheet gets. No functions.

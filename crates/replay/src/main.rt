@@ -2,6 +2,7 @@
 // A record is a kind byte, a two-byte length and a body: the input, then the answer.
 mod boxes;
 mod cards;
+mod charges;
 mod circles;
 mod groups;
 mod layouts;
@@ -12,14 +13,14 @@ use libc::STDIN_FILENO;
 use libc::STDOUT_FILENO;
 ghost use Prim.Native.Nat.{_<_};
 
-const KINDS: usize = 11;
+const KINDS: usize = 12;
 
 // More records than any list has.
 const BUDGET: u64 = 100000000;
 
 struct Tally {
-    seen: [u64; 12],
-    agreed: [u64; 12],
+    seen: [u64; 13],
+    agreed: [u64; 13],
 }
 
 // What one record came to: the end, or its kind, plus 100 where it agrees.
@@ -40,6 +41,7 @@ fn main() {
     line(b"container ", tally.agreed[9], tally.seen[9]);
     line(b"whole cards ", tally.agreed[10], tally.seen[10]);
     line(b"whole layouts ", tally.agreed[11], tally.seen[11]);
+    line(b"charges ", tally.agreed[12], tally.seen[12]);
     line(b"malformed ", tally.agreed[0], tally.seen[0]);
 }
 
@@ -53,8 +55,8 @@ fn line(name: &[u8], agreed: u64, seen: u64) {
 
 // A record of no known kind, or one that is cut, counts as one of kind 0.
 fn all() -> Tally {
-    let mut seen = [0u64; 12];
-    let mut agreed = [0u64; 12];
+    let mut seen = [0u64; 13];
+    let mut agreed = [0u64; 13];
     let mut turn: u64 = 0;
     while turn < BUDGET {
         let outcome = next();
@@ -62,7 +64,7 @@ fn all() -> Tally {
             return Tally { seen, agreed };
         }
         let kind = outcome % AGREES;
-        if kind < 12 {
+        if kind < 13 {
             seen[kind] = more(seen[kind]);
             if outcome >= AGREES {
                 agreed[kind] = more(agreed[kind]);
@@ -141,6 +143,7 @@ fn agrees(kind: usize, body: &[u8]) -> bool {
         9 => places::container_agrees(body),
         10 => cards::card_agrees(body),
         11 => layouts::layout_agrees(body),
+        12 => charges::charge_agrees(body),
         _ => false,
     }
 }

@@ -1,15 +1,19 @@
-// Clustering, packing and layouts of the records that a caller lends.
+// Clustering, packing and layouts of the records that a caller lends, and what the sheet of a layout costs.
 ghost use mathlib.Core.Path.{_≡_};
 ghost use Rattle.scope.specs.Links.{regions};
 ghost use Rattle.scope.specs.Groups.{plainGrouping, areaGrouping};
 ghost use Rattle.scope.specs.Packing.{skylinePack};
 ghost use Rattle.scope.specs.Container.{contained};
 ghost use Rattle.scope.specs.Layout.{layout};
+ghost use Rattle.scope.specs.CardStock.{cardStock};
 ghost use Rattle.scope.specs.Promises.{Promises};
 ghost use Rattle.promises.specs.Demand3.{bound};
 ghost use Rattle.clustering.specs.Answers.{grouped, NumbersByChains};
 ghost use Rattle.packing.specs.Answers.{packedBoxes};
 ghost use Rattle.layout.specs.Answers.{resultOf, placedOf};
+ghost use Rattle.card_stock.specs.Answers.{chargeOf};
+use card_stock::Charge;
+use card_stock::card_stock;
 use clustering::Clusters;
 use clustering::find_clusters;
 use clustering::find_clusters_from_exclusive_regions;
@@ -70,4 +74,18 @@ pub extern "C" fn rundhefja_layout(
         × (r .refusal ≡ 0 → Promises bound (now (circles .entry)) (regions (now (masks .entry)) (now (areas .entry))) (resultOf r) (now (circles .exit))) ⌝ }
 {
     normalize_layout_with_clusters(circles, factor, masks, areas, proportion)
+}
+
+#[no_mangle]
+pub extern "C" fn rundhefja_card_stock(
+    circles: &[Circle],
+    factor: f64,
+    masks: &[u64],
+    areas: &[f64],
+    proportion: f64,
+    cents: u64,
+) -> Charge
+    ensures { λ r. ⌜ chargeOf r ≡ cardStock (now (circles .entry)) factor (now (masks .entry)) (now (areas .entry)) proportion cents ⌝ }
+{
+    card_stock(circles, factor, masks, areas, proportion, cents)
 }

@@ -1,5 +1,5 @@
 -- More samples, proved by computation: document 01's "By program" and "Mistakes to catch", each refusal of the card reader, ends of ranges, the writer,
--- proportions and packed rows.
+-- proportions, packed rows and card stock.
 use Prim.Native.Nat.{ℕ, _-_, _/_, _%_, _^_}
 use mathlib.Core.Path.{_≡_, refl}
 use mathlib.Core.Bool.{Bool, true, false}
@@ -9,10 +9,12 @@ use lib.Bits.{bitOr}
 use lib.Dec.{eqb}
 use lib.ListN.{getD, replicate, take}
 use lib.Ieee.{Float, nan, inf, fin, binary64, neg, ofBits, toBits}
+use Rattle.shapes.specs.Limits.{smallestRadius}
+use Rattle.shapes.specs.declared.circle.Circle.{Circle}
 use Rattle.shapes.specs.declared.rectangle.Rectangle.{Rectangle}
 use Rattle.scope.specs.Numbers.{nought, one, two, half, whole, e-10, golden}
 use Rattle.scope.specs.Runs.{tab, filled}
-use Rattle.scope.specs.Limits.{circleCap, coordinateOk, radiusOk, factorOk, sideOk, paddingOk, proportionOk}
+use Rattle.scope.specs.Limits.{circleCap, coordinateOk, radiusOk, factorOk, sideOk, paddingOk, proportionOk, priceOk}
 use Rattle.scope.specs.Refusals.{refused, given, cardRefusal}
 use Rattle.shapes.specs.Records.{pointAt, circleOf, rectangleOf}
 use Rattle.scope.specs.Distance.{rootAnswer, distanceAnswer, circleDistanceAnswer, containsPointAnswer}
@@ -23,11 +25,12 @@ use Rattle.scope.specs.Tolerance.{tolerance}
 use Rattle.scope.specs.Packing.{skylinePack, columnsAnswer, rows, noRectangle, refusedPacking}
 use Rattle.scope.specs.Container.{contained}
 use Rattle.scope.specs.Layout.{layout, refusedLayout}
+use Rattle.scope.specs.CardStock.{refusedCharge, cardStock}
 use Rattle.scope.specs.CardFile.{factorField, circleField, regionField, Card, readField, fieldBody, nextRefusal, readCard}
 use Rattle.scope.specs.Text.{bytes}
 use Rattle.scope.specs.Print.{cardText, float}
 use Rattle.scope.specs.Saving.{cardOf, fileOf, refusedSaving, writeCard, writeText}
-use Rattle.scope.specs.Twins.{firstWritten}
+use Rattle.scope.specs.Twins.{firstWritten, firstStock}
 use Rattle.scope.specs.Computing.{computing}
 use Rattle.scope.specs.Samples.{wholeCircle, grouped, fileJ}
 
@@ -454,6 +457,11 @@ pub record PackingChecks : Type 0 where
             ∷ squareBox (fin false 15 (negsuc 1)) (fin false 5 (negsuc 1)) (whole 2)
             ∷ []);
       }
+  -- 4 by 2 and 3 by 1, side by side: a column is as wide as its box, and the row as high as the higher one
+  pub own-sides :
+      map (λ (r : Rectangle). r .center)
+      (take 2 (skylinePack (rectangleOf (pointAt nan nan) (whole 4) (whole 2) ∷ rectangleOf (pointAt nan nan) (whole 3) one ∷ []) nought (whole 4) .rectangles))
+      ≡ pointAt (whole 2) one ∷ pointAt (fin false 11 (negsuc 0)) one ∷ []
   pub bad-side : skylinePack (box (neg one) ∷ []) nan nan ≡ refusedPacking 7
   pub bad-padding : skylinePack (box one ∷ []) nan nan ≡ refusedPacking 8
   -- "No boxes have 0 columns."
@@ -478,6 +486,7 @@ unfolding computing box
 packs =
     record {
       equal-boxes = refl;
+      own-sides = refl;
       bad-side = refl;
       bad-padding = refl;
       columns-0 = refl;
@@ -532,7 +541,7 @@ pub record ProportionChecks : Type 0 where
   pub wide : layout (wholeCircle 0 0 1 1 ∷ wholeCircle 10 0 1 2 ∷ []) nought [] [] four .circles
       ≡ circleOf (neg one) nought one 1 ∷ circleOf one nought one 2 ∷ []
   -- "checked after 15": after every other cause, and the circles come back as given
-  pub alone : layout (wholeCircle 0 0 1 1 ∷ []) nought [] [] nan ≡ refusedLayout 16 (wholeCircle 0 0 1 1 ∷ [])
+  pub alone : layout (wholeCircle 3 4 1 1 ∷ []) nought [] [] nan ≡ refusedLayout 16 (wholeCircle 3 4 1 1 ∷ [])
   pub ink-first : layout (wholeCircle 0 0 1 1 ∷ wholeCircle 10 0 1 1 ∷ []) nought [] [] nan .result .refusal ≡ 14
   pub no-box : skylinePack [] nought nan ≡ refusedPacking 16
   pub padding-first : skylinePack [] nan nan ≡ refusedPacking 8
@@ -595,4 +604,73 @@ packedRows =
       in-words = refl;
       from-words = refl;
       words-joined = refl;
+    }
+
+-- ---- document 02, 5/14: card stock
+
+-- a circle of radius 7 and 1/32: 14 and 1/16 across
+abbrev pub fourteen : Circle
+fourteen = circleOf nought nought (fin false 225 (negsuc 4)) 1
+
+-- a circle whose radius is the f64 next above 5
+abbrev pub pastFive : Circle
+pastFive = circleOf nought nought (ofBits binary64 0x4014_0000_0000_0001) 1
+
+-- two circles in one cluster, whose box is 90 and half a rounding wide
+abbrev pub halfPastNinety : List Circle
+halfPastNinety = wholeCircle 0 0 10 1 ∷ circleOf nought (whole 70) (ofBits binary64 0x4024_0000_0000_0004) 2 ∷ []
+
+-- two circles of diameter 1, so far apart, in one cluster: a sheet 1 tall
+abbrev pub inLine : ℕ → List Circle
+inLine far = circleOf nought nought half 1 ∷ circleOf (whole far) nought half 2 ∷ []
+
+pub record StockChecks : Type 0 where
+  -- "An empty layout costs 0", if its price is one
+  pub empty : cardStock [] nought [] [] one 100 ≡ record { refusal = 0; amount = 0 }
+  pub empty-unpriced : cardStock [] nought [] [] one 0 ≡ refusedCharge 17
+  -- 10 by 10, whole already: 100 square millimetres
+  pub whole-sides : cardStock (wholeCircle 3 4 5 1 ∷ []) nought [] [] one 7 ≡ record { refusal = 0; amount = 7 }
+  -- a hair more, so 11 by 11
+  pub hair-above : cardStock (pastFive ∷ []) nought [] [] one 7 ≡ record { refusal = 0; amount = 14 }
+  -- 100 by 1, and 101 by 1
+  pub hundred : cardStock (inLine 99) nought (3 ∷ []) (one ∷ []) one 100 ≡ record { refusal = 0; amount = 100 }
+  pub hundred-and-one : cardStock (inLine 100) nought (3 ∷ []) (one ∷ []) one 100 ≡ record { refusal = 0; amount = 200 }
+  -- each side raised, 15 by 15: the area raised would be 198
+  pub sides-raised : cardStock (fourteen ∷ []) nought [] [] one 1 ≡ record { refusal = 0; amount = 3 }
+  -- "as `Bounds` computes them", 90 by 21: the exact width would be raised to 91
+  pub as-bounds-computes : cardStock halfPastNinety nought (3 ∷ []) (one ∷ []) one 1 ≡ record { refusal = 0; amount = 19 }
+  -- the smallest circle costs the price
+  pub smallest : cardStock (circleOf nought nought smallestRadius 1 ∷ []) nought [] [] one 9 ≡ record { refusal = 0; amount = 9 }
+  -- finished, 4 by 2: the sheet as handed in has 2,004 square millimetres
+  pub finished : cardStock (wholeCircle 0 0 1 1 ∷ wholeCircle 1000 0 1 2 ∷ []) nought [] [] four 100 ≡ record { refusal = 0; amount = 100 }
+  -- "1 to 100"
+  pub prices : map priceOk (0 ∷ 1 ∷ 100 ∷ 101 ∷ []) ≡ false ∷ true ∷ true ∷ false ∷ []
+  pub too-dear : cardStock (wholeCircle 0 0 1 1 ∷ []) nought [] [] one 101 ≡ refusedCharge 17
+  -- "after 16"
+  pub proportion-first : cardStock (wholeCircle 0 0 1 1 ∷ []) nought [] [] nan 0 ≡ refusedCharge 16
+  pub ink-first : cardStock (wholeCircle 0 0 1 1 ∷ wholeCircle 9 0 1 1 ∷ []) nought [] [] nan 0 ≡ refusedCharge 14
+  -- of an array, the first n
+  pub first-one : firstStock 1 (wholeCircle 3 4 5 1 ∷ wholeCircle 99 0 5 1 ∷ []) nought [] [] one 7 ≡ record { refusal = 0; amount = 7 }
+  pub too-many : firstStock 65 [] nan [] [] nan 0 ≡ refusedCharge 1
+
+pub stocks : StockChecks
+unfolding computing
+stocks =
+    record {
+      empty = refl;
+      empty-unpriced = refl;
+      whole-sides = refl;
+      hair-above = refl;
+      hundred = refl;
+      hundred-and-one = refl;
+      sides-raised = refl;
+      as-bounds-computes = refl;
+      smallest = refl;
+      finished = refl;
+      prices = refl;
+      too-dear = refl;
+      proportion-first = refl;
+      ink-first = refl;
+      first-one = refl;
+      too-many = refl;
     }

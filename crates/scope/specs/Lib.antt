@@ -15,6 +15,7 @@ pub mod Padding
 pub mod Centring
 pub mod Layout
 pub mod Container
+pub mod CardStock
 pub mod Twins
 pub mod CardFile
 pub mod Text

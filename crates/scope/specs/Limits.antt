@@ -1,6 +1,7 @@
 -- Document 01, "Records", and document 02: how much a call takes, and the ranges of its numbers. Ends count as inside, and -0 counts as 0.
 use Prim.Native.Nat.{ℕ}
 use mathlib.Core.Bool.{Bool, false, _&&_}
+use lib.Dec.{leb}
 use lib.IntN.{pos, negsuc}
 use lib.Ieee.{Float, fin, neg}
 use Rattle.scope.specs.Numbers.{_≤ᶠ_, nought, one}
@@ -45,3 +46,7 @@ paddingOk x = within nought (fin false 1 (pos 26)) x
 -- document 02, 3/14: "a proportion given with the call, from 1/4 to 4"
 unfoldable pub proportionOk : Float → Bool
 proportionOk x = within (fin false 1 (negsuc 1)) (fin false 1 (pos 2)) x
+
+-- 5/14: "the price in cents, 1 to 100"
+unfoldable pub priceOk : ℕ → Bool
+priceOk cents = leb 1 cents && leb cents 100

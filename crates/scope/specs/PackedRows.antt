@@ -1,4 +1,5 @@
--- Document 02, 4/14: "pack a row of marks into a 64-bit word and join two rows by one operation". Rows of any width, in words of any width.
+-- Document 02, 4/14: "pack a row of marks into a 64-bit word and join two rows by one operation"; 9/14: "masks to four 64-bit words with the lowest first".
+-- Rows of any width, in words of any width.
 use Prim.Native.Nat.{ℕ, _+_, _*_, _/_, _%_, _^_}
 use mathlib.Core.Bool.{Bool}
 use mathlib.Core.List.{List}
@@ -14,7 +15,7 @@ packedRow w p = gather _+_ 0 p w (λ j. 2 ^ j)
 unfoldable pub unpackedRow : ℕ → ℕ → List Bool
 unpackedRow w x = tab w (bit x)
 
--- a row of k words of w places each, the lowest first
+-- ---- 9/14: a row of k words of w places each, the lowest first
 unfoldable pub packedWords : ℕ → ℕ → (ℕ → Bool) → List ℕ
 packedWords w k p = tab k (λ q. packedRow w (λ j. p (q * w + j)))
 

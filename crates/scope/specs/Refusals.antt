@@ -9,12 +9,12 @@ use Rattle.shapes.specs.declared.point.Point.{Point}
 use Rattle.shapes.specs.declared.circle.Circle.{Circle}
 use Rattle.shapes.specs.declared.rectangle.Rectangle.{Rectangle}
 use Rattle.scope.specs.Runs.{any}
-use Rattle.scope.specs.Limits.{circleCap, regionCap, coordinateOk, radiusOk, factorOk, sideOk, paddingOk, proportionOk}
+use Rattle.scope.specs.Limits.{circleCap, regionCap, coordinateOk, radiusOk, factorOk, sideOk, paddingOk, proportionOk, priceOk}
 
 -- ---- "The lowest wins, but 13 goes before 2." Document 02, 1/14: 14 is "looked for after every check of document 01"; 2/14: 15 is "after all value checks";
--- 3/14: 16 is "checked after 15".
+-- 3/14: 16 is "checked after 15"; 5/14: 17 is "after 16".
 unfoldable pub causes : List ℕ
-causes = 1 ∷ 13 ∷ 2 ∷ 3 ∷ 4 ∷ 5 ∷ 6 ∷ 7 ∷ 8 ∷ 9 ∷ 10 ∷ 11 ∷ 12 ∷ 14 ∷ 15 ∷ 16 ∷ []
+causes = 1 ∷ 13 ∷ 2 ∷ 3 ∷ 4 ∷ 5 ∷ 6 ∷ 7 ∷ 8 ∷ 9 ∷ 10 ∷ 11 ∷ 12 ∷ 14 ∷ 15 ∷ 16 ∷ 17 ∷ []
 
 -- What a call checks: numbers, and whether the cause of each holds.
 abbrev pub Checks : Type 0
@@ -111,6 +111,10 @@ tooShort room size = ltb room size
 unfoldable pub badProportion : Float → Bool
 badProportion x = not (proportionOk x)
 
+-- 17, "A price outside its range"
+unfoldable pub badPrice : ℕ → Bool
+badPrice cents = not (priceOk cents)
+
 -- ---- what each call checks; 9, 10 and 11 stand with the card file, 12 with the root. "Duplicate ink numbers give 14 wherever a call takes a list of circles"
 
 -- the distance of two points
@@ -159,9 +163,17 @@ cardChecks cs factor masks areas =
 unfoldable pub cardRefusal : List Circle → Float → List ℕ → List Float → ℕ
 cardRefusal cs factor masks areas = refusal (cardChecks cs factor masks areas)
 
--- the whole layout, `normalize_layout_with_clusters`: a card's values, then the proportion
+-- what a layout takes: a card's values, then the proportion
+abbrev pub layoutChecks : List Circle → Float → List ℕ → List Float → Float → Checks
+layoutChecks cs factor masks areas proportion = cardChecks cs factor masks areas ++ (16, badProportion proportion) ∷ []
+
+-- the whole layout, `normalize_layout_with_clusters`
 unfoldable pub layoutRefusal : List Circle → Float → List ℕ → List Float → Float → ℕ
-layoutRefusal cs factor masks areas proportion = refusal (cardChecks cs factor masks areas ++ (16, badProportion proportion) ∷ [])
+layoutRefusal cs factor masks areas proportion = refusal (layoutChecks cs factor masks areas proportion)
+
+-- the charge for card stock: a layout's values, then the price
+unfoldable pub stockRefusal : List Circle → Float → List ℕ → List Float → Float → ℕ → ℕ
+stockRefusal cs factor masks areas proportion cents = refusal (layoutChecks cs factor masks areas proportion ++ (17, badPrice cents) ∷ [])
 
 -- the card writer, with an output of `room` bytes for a file of `size`: a card's values, then the output
 unfoldable pub writerRefusal : List Circle → Float → List ℕ → List Float → ℕ → ℕ → ℕ

@@ -12,6 +12,7 @@ use Rattle.scope.specs.Groups.{Grouping, refusedGrouping, plainGrouping}
 use Rattle.scope.specs.Packing.{Packing, refusedPacking, skylinePack}
 use Rattle.scope.specs.Container.{Contained, refusedContainer, contained}
 use Rattle.scope.specs.Layout.{Layout, layout, refusedLayout}
+use Rattle.scope.specs.CardStock.{Charge, refusedCharge, cardStock}
 use Rattle.scope.specs.Saving.{Saved, refusedSaving, cardOf, writeCard}
 
 -- what is answered of n records, unless there are too many
@@ -52,3 +53,7 @@ firstContained n cs container = unlessMany n (refusedContainer cs container 1) (
 -- ---- `write_card`: the card of the first n circles of an array
 unfoldable pub firstWritten : ℕ → List Circle → Float → List ℕ → List ℕ → List ℕ → Saved
 firstWritten n cs factor masks patterns out = unlessMany n (refusedSaving out 1) (writeCard (cardOf factor (take n cs) masks patterns) out)
+
+-- ---- `card_stock`: the charge for the layout of the first n circles of an array
+unfoldable pub firstStock : ℕ → List Circle → Float → List ℕ → List Float → Float → ℕ → Charge
+firstStock n cs factor masks areas proportion cents = unlessMany n (refusedCharge 1) (cardStock (take n cs) factor masks areas proportion cents)

@@ -1,10 +1,12 @@
 -- `hold_selves` meets its contract, circle by circle.
 use Prim.Native.Nat.{_-_, _≤_}
 use native.Mathlib.Omega.{arith}
+use lib.Dec.{eqb}
 use Rattle.laws.proofs.PackedRows.{single-shifted}
 use Rattle.intake.specs.Limits.{maxCircles}
 use Rattle.clustering.specs.Table.{Holds}
-use Rattle.clustering.proofs.Linking.{diagonal, selves-start, selves-step, selves-end}
+use Rattle.clustering.proofs.Rows.{holds-same}
+use Rattle.clustering.proofs.Linking.{diagonal, diagonal-empty, diagonal-whole, selves-step}
 use Rattle.clustering.proofs.hold_selves.Statement.{statement}
 use Rattle.clustering.proofs.hold_selves.Tie as tie
 
@@ -15,7 +17,7 @@ abbrev μ-loop : tie.MeasureT-loop
 μ-loop rows₀ n i₀ rows i = n - i
 
 loop-holds : tie.Need-loop-holds Inv-loop μ-loop
-loop-holds c = (omega arith, selves-start _ (c .pre .1))
+loop-holds c = (omega arith, holds-same (diagonal 0) (λ a b ha hb. diagonal-empty a b) (c .pre .1))
 
 shl-rows : tie.Need-shl-rows Inv-loop μ-loop
 shl-rows c = omega arith
@@ -39,7 +41,7 @@ loop-again c =
     (omega arith, rw (single-shifted maxCircles (l .i) (omega (arith, h, c .before .before .pre .0))) (selves-step _ (l .i) h (l .inv .1)))
 
 returns : tie.Need-returns Inv-loop μ-loop
-returns c = selves-end _ _ (c .loop-test .left) (c .before .loop .inv .1)
+returns c = holds-same eqb (diagonal-whole _ _ (c .loop-test .left)) (c .before .loop .inv .1)
 
 pub hold-selves-spec : {M : Type 1} → statement M
 hold-selves-spec =

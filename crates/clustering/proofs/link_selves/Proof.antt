@@ -1,8 +1,10 @@
 -- `link_selves` meets its contract, circle by circle.
 use Prim.Native.Nat.{_-_, _≤_}
 use native.Mathlib.Omega.{arith}
+use lib.Dec.{eqb}
 use Rattle.clustering.specs.Table.{Shows}
-use Rattle.clustering.proofs.Linking.{diagonal, diagonal-start, diagonal-step, diagonal-end}
+use Rattle.clustering.proofs.Table.{shows-same}
+use Rattle.clustering.proofs.Linking.{diagonal, diagonal-empty, diagonal-whole, diagonal-step}
 use Rattle.clustering.proofs.link_selves.Statement.{statement}
 use Rattle.clustering.proofs.link_selves.Tie as tie
 
@@ -13,7 +15,7 @@ abbrev μ-loop : tie.MeasureT-loop
 μ-loop m₀ n i₀ m i = n - i
 
 loop-holds : tie.Need-loop-holds Inv-loop μ-loop
-loop-holds c = (omega arith, diagonal-start _ (c .pre .1))
+loop-holds c = (omega arith, shows-same (diagonal 0) (λ a b ha hb. diagonal-empty a b) (c .pre .1))
 
 mul-m : tie.Need-mul-m Inv-loop μ-loop
 mul-m c = omega arith
@@ -34,7 +36,7 @@ loop-again : tie.Need-loop-again Inv-loop μ-loop
 loop-again c = (omega arith, diagonal-step _ _ (c .loop-test .taken) (c .before .loop .inv .1))
 
 returns : tie.Need-returns Inv-loop μ-loop
-returns c = diagonal-end _ _ (c .loop-test .left) (c .before .loop .inv .1)
+returns c = shows-same eqb (diagonal-whole _ _ (c .loop-test .left)) (c .before .loop .inv .1)
 
 pub link-selves-spec : {M : Type 1} → statement M
 link-selves-spec =

@@ -1,5 +1,5 @@
 -- `other_than` meets its contract.
-use Rattle.laws.proofs.PackedRows.{bit-other}
+use Rattle.laws.proofs.MaskBits.{bit-other}
 use Rattle.clustering.proofs.other_than.Statement.{statement}
 use Rattle.clustering.proofs.other_than.Tie as tie
 

@@ -1,12 +1,14 @@
 -- `columns_of` meets its contract: the table for 1.618 alone, else the two roots and their product raised.
+use native.Mathlib.Omega.{arith}
 use mathlib.Core.Path.{sym, ap, subst, _∙_}
 use borrow.Author.Needs.{needs}
 use lib.Dec.{T}
 use Rattle.scope.specs.Numbers.{golden}
 use Rattle.scope.specs.Packing.{columns}
-use Rattle.promises.proofs.packing.Proportions.{Proportion, product-within-16}
+use Rattle.promises.proofs.packing.Proportions.{Proportion, columns-at-most-16}
 use Rattle.packing.proofs.ColumnTable.{golden-alone, proportion-good}
 use Rattle.packing.proofs.Counting.{count-small, count-held}
+use Rattle.packing.proofs.RaisedWord.{raised-word-is}
 use Rattle.packing.proofs.columns_of.Statement.{statement}
 use Rattle.packing.proofs.columns_of.Tie as tie
 
@@ -33,14 +35,15 @@ root-or-nan-requires-2 : tie.Need-root-or-nan-requires-2
 root-or-nan-requires-2 c κs = search needs
 
 raised-requires : tie.Need-raised-requires
-raised-requires c κs =
-    let S = c .before .before .before .before in
-    let k = S .args .k in
-    rw (c .before .root-or-nan .ensures, c .root-or-nan2 .ensures) (product-within-16 k (count-small k (S .pre .0)) (S .args .proportion) (allowed S) (S .pre .0))
+raised-requires c κs = search needs
 
 returns-2 : tie.Need-returns-2
 unfolding columns
-returns-2 c = c .raised .ensures ∙ rw (c .before .before .root-or-nan .ensures, c .before .root-or-nan2 .ensures)
+returns-2 c =
+    let S = c .before .before .before .before .before in
+    let k = S .args .k in
+    let few = columns-at-most-16 k (count-small k (S .pre .0)) (S .args .proportion) (allowed S) (S .pre .0) in
+    c .raised .ensures ∙ rw (c .before .before .root-or-nan .ensures, c .before .root-or-nan2 .ensures) (raised-word-is _ (omega (arith, few)))
 
 pub columns-of-spec : {M : Type 1} → statement M
 columns-of-spec =

@@ -34,6 +34,9 @@ bounded h = record { fin = h .fin; within = h .within }
 pub wider : {a b : ℕ} {x : Float} → a ≤ b → Bounded a x → Bounded b x
 wider {a} {b} {x} l h = record { fin = h .fin; within = let w = h .within in omega arith }
 
+pub further : {a b : ℕ} {x : Float} → a ≤ b → Upto a x → Upto b x
+further {a} {b} {x} l h = record { fin = h .fin; sign = h .sign; within = let w = h .within in omega arith }
+
 pub nought-upto : (b : ℕ) → Upto b nought
 unfolding Fin fits negative val mag
 nought-upto b = record { fin = tt; sign = refl; within = omega arith }
@@ -45,6 +48,9 @@ within-mag x b s h = rw (val-mag binary64 x s) (omega arith)
 pub pow2-positive : (i : ℕ) → 0 < pow2 i
 unfolding pow2
 pow2-positive i = pow-pos (1014 + i)
+
+pub not-below : (x : Float) → negative x ≡ false → nat 0 ≼ units x
+not-below x s = rw (val-mag binary64 x s) (omega arith)
 
 -- a rounding of a whole number of units, its divisor 1 left out
 pub near-of : {a b : Z} {e : ℕ} → Near (a ⊗ nat 1) b (e * 1) → Near a b e

@@ -44,6 +44,11 @@ within-between lo hi x p q f t =
     let F = fin-both binary64 x (between-finite lo hi x p q (h .0) (h .1)) f in
     record { fin = F; from = le-is binary64 lo x p F .0 (h .0); to = le-is binary64 x hi F q .0 (h .1) }
 
+-- and what lies between 0 and the upper end passes
+pub passes-from-nought : (hi x : Float) → Fin binary64 hi → Fin binary64 x → nat 0 ≼ units x → units x ≼ units hi → T (within nought hi x)
+unfolding within Fin fits val mag negative
+passes-from-nought hi x q p low high = and-iff (le nought x) (le x hi) .1 (le-is binary64 nought x tt p .1 low, le-is binary64 x hi p q .1 high)
+
 -- ---- radii: 2^-20 to 2^20
 pub radius-between : (r : Float) → T (fits binary64 r) → T (radiusOk r) → Between (nat (pow2 40)) (nat (pow2 80)) r
 unfolding radiusOk smallestRadius largestRadius Fin fits val mag negative pow2

@@ -9,23 +9,26 @@ use mathlib.Core.List.{List}
 use lib.Dec.{T, leb, leb→le, le→leb}
 use lib.ListN.{length}
 use lib.Ieee.{Float}
-use Rattle.algebra.specs.Integer.{nat, _≼_}
+use Rattle.algebra.specs.Integer.{Z, nat, _⊖_, _≼_}
 use Rattle.rounding.specs.Scale.{pow2}
+use Rattle.shapes.specs.declared.point.Point.{Point}
 use Rattle.shapes.specs.declared.circle.Circle.{Circle}
 use Rattle.shapes.specs.declared.rectangle.Rectangle.{Rectangle}
 use Rattle.scope.specs.Links.{circle}
-use Rattle.scope.specs.Packing.{columns, rectangle, rectangleArea}
+use Rattle.scope.specs.Packing.{columns, rows, rectangle, rectangleArea}
 use Rattle.scope.specs.Padding.{boxes, padding}
-use Rattle.scope.specs.Promises.{units}
+use Rattle.scope.specs.Promises.{units, xAxis, yAxis, lower, upper}
 use Rattle.promises.proofs.numbers.Bounded.{Bounded, Upto, bounded, wider}
-use Rattle.promises.proofs.packing.Gap.{packedReach, packedSlack}
+use Rattle.promises.proofs.packing.Gap.{packedReach, packedSlack, gridRoom}
 use Rattle.promises.proofs.packing.Sizes as sizes
+use Rattle.promises.proofs.packing.Places.{row-below}
+use Rattle.promises.proofs.packing.BoxSides.{AllSpan}
 use Rattle.promises.proofs.packing.Columns.{GridFits}
 use Rattle.promises.proofs.packing.PackedCircles.{boxes-length, columnsOf}
 use Rattle.promises.proofs.packing.Centred.{CentringRoom}
 use Rattle.promises.proofs.packing.Packed.{Inside, Packable}
 use Rattle.promises.proofs.packing.Returned.{Arranged, returned, few-arranged, many-arranged}
-use Rattle.promises.proofs.packing.ClusterBoxes.{Clustered, width-upto, height-upto, rectangle-area-upto}
+use Rattle.promises.proofs.packing.ClusterBoxes.{Clustered, ClusterSpans, cluster-spans-x, cluster-spans-y, width-upto, height-upto, rectangle-area-upto}
 
 -- ---- bounds that follow from the sizes: of the ends of a box, of a line's width, of a line's start, of a packed centre, of the ends of the layout's box
 abbrev pub endReach : ℕ → ℕ → ℕ → ℕ
@@ -42,6 +45,10 @@ centreReach h i s n lines B R = packedReach i (startReach h i s n lines) (lineWi
 
 abbrev pub layoutReach : ℕ → ℕ → ℕ → ℕ → ℕ → ℕ → ℕ → ℕ
 layoutReach h i s n lines B R = centreReach h i s n lines B R + R + pow2 i
+
+-- the room that so many lines take on an axis after the centring
+abbrev pub sheetRoom : ℕ → ℕ → ℕ → ℕ → ℕ → ℕ → ℕ
+sheetRoom h i o s n lines = gridRoom h i (lineWidth h s n) lines + 2 * pow2 o
 
 -- ---- what the sizes have to meet; each is a comparison of numbers
 pub record Budget (h i o s n lines B R D t : ℕ) : Type 0 where
@@ -98,10 +105,10 @@ module _ {h i o s n lines B R D t : ℕ} (b : Budget h i o s n lines B R D t) {c
   padding-not-negative = sizes.padding-not-negative s n (b .ts) rects factor few-rects fewer-rects (λ a l. area-is-upto a (below a l)) hf
 
   -- ---- the whole step
-  module _ (proportion : Float) (grid : 2 ≤ count → GridFits lines count (columns count proportion)) where
+  module _ (low : nat 0 ≼ units factor) (proportion : Float) (grid : 0 < count → GridFits lines count (columns count proportion)) where
     packable : 2 ≤ count → Packable h i (startReach h i s n lines) (endReach h B R) (pow2 (60 + s)) (pow2 (60 + (s + n))) B R proportion count numbers cs reported
     packable many =
-        let g : GridFits lines count (columnsOf proportion rects) = subst (λ (k : ℕ). GridFits lines count (columns k proportion)) (sym (boxes-length count numbers cs)) (grid many) in
+        let g : GridFits lines count (columnsOf proportion rects) = subst (λ (k : ℕ). GridFits lines count (columns k proportion)) (sym (boxes-length count numbers cs)) (grid (omega arith)) in
         record {
           room = record { th = b .th; ti = b .ti; finer = b .finer; lengths = b .lengths; positions = b .positions };
           some-column = g .some-column;
@@ -114,6 +121,7 @@ module _ {h i o s n lines B R D t : ℕ} (b : Budget h i o s n lines B R D t) {c
           heights = λ a l. bounded (height-is-upto a l);
           areas = λ a l. area-is-upto a l .fin;
           padding = padding-bounded;
+          padding-not-negative = padding-not-negative low;
         }
 
     centring-room : CentringRoom i o (centreReach h i s n lines B R) R (layoutReach h i s n lines B R)
@@ -125,8 +133,27 @@ module _ {h i o s n lines B R D t : ℕ} (b : Budget h i o s n lines B R D t) {c
         fits : B ≤ centreReach h i s n lines B R
         fits = omega arith
 
-    pub packed-and-centred : Arranged i o t numbers reported cs (returned proportion count numbers cs reported)
+    -- one cluster has room in one line
+    one-line : (c : ℕ) → 0 < c → D + 2 * R ≤ gridRoom h i (lineWidth h s n) c
+    one-line c some = go (lineWidth h s n + pow2 i) (omega (arith, b .sides)) (mul-le-mul-right (lineWidth h s n + pow2 i) some)
+      where
+        go : (w : ℕ) → D + 2 * R ≤ w → 1 * w ≤ c * w → D + 2 * R ≤ c * w + packedSlack h i
+        go w k l = omega arith
+
+    unpacked-span : (axis : Point → Float) → ClusterSpans (D + 2 * R) axis numbers cs → (c : ℕ) → (0 < count → 0 < c) → count < 2 → AllSpan (gridRoom h i (lineWidth h s n) c) axis (length cs) cs
+    unpacked-span axis spans c some one j m l k =
+        let p = C .numbered j l in
+        let q = C .numbered m k in
+        looser (upper axis (circle cs j)) (lower axis (circle cs m)) (gridRoom h i (lineWidth h s n) c) (one-line c (some (omega arith))) (spans j m l k (omega arith))
+      where
+        looser : (x y : Z) (w : ℕ) → D + 2 * R ≤ w → x ⊖ y ≼ nat (D + 2 * R) → x ⊖ y ≼ nat w
+        looser x y w k g = omega arith
+
+    pub packed-and-centred : Arranged i o t (sheetRoom h i o s n (columns count proportion)) (sheetRoom h i o s n (rows count (columns count proportion))) numbers reported cs (returned proportion count numbers cs reported)
     packed-and-centred = elim (decLt count 2) [
       | yes one ↦ few-arranged proportion count numbers cs reported centring-room (omega (arith, b .slack)) one unpacked-inside (C .numbered)
+          (gridRoom h i (lineWidth h s n) (columns count proportion)) (gridRoom h i (lineWidth h s n) (rows count (columns count proportion)))
+          (unpacked-span xAxis (cluster-spans-x C) (columns count proportion) (λ some. grid some .some-column) one)
+          (unpacked-span yAxis (cluster-spans-y C) (rows count (columns count proportion)) (λ some. omega (arith, row-below count (columns count proportion) 0 (grid some .some-column) some)) one)
       | no more ↦ let many : 2 ≤ count = omega arith in many-arranged proportion count numbers cs reported (packable many) centring-room (b .slack) many
     ]

@@ -1,5 +1,5 @@
--- The box of some circles, one axis at a time: it holds each of them up to one rounding, and its side is not negative and at most the spread of the centres
--- with two radii and three roundings.
+-- The box of some circles, one axis at a time: it holds each of them up to one rounding, and its side is not negative and at most the room that they take with
+-- three roundings.
 use Prim.Native.Nat.{ℕ, _+_, _*_, _≤_, _<_}
 use native.Mathlib.Omega.{arith}
 use mathlib.Core.Path.{_≡_, refl, ap, _∙_, subst, sym}
@@ -24,7 +24,7 @@ use Rattle.scope.specs.Runs.{gather}
 use Rattle.scope.specs.Links.{circle}
 use Rattle.scope.specs.Gauge.{nothing}
 use Rattle.scope.specs.Padding.{boxAll}
-use Rattle.scope.specs.Promises.{units, xAxis, yAxis}
+use Rattle.scope.specs.Promises.{units, xAxis, yAxis, lower, upper}
 use Rattle.promises.proofs.packing.Folds.{gather-part, attained-has, Extreme, Up, Down, minimum-extreme, maximum-extreme}
 use Rattle.promises.proofs.numbers.Bounded.{Bounded, Upto, near-of, positive-sign}
 
@@ -74,6 +74,14 @@ sum-sign x y p q h =
 difference-sign : (hi lo : Float) → Fin binary64 hi → Fin binary64 lo → units lo ≺ units hi → negative (sub binary64 hi lo) ≡ false
 unfolding sub
 difference-sign hi lo p q h = sum-sign hi (neg lo) p (neg-fin binary64 lo q) (rw (neg-val binary64 lo) (omega arith))
+
+-- on an axis circles a and b take a room of at most w, from the lower end of b to the upper end of a
+abbrev pub Spans : ℕ → (Point → Float) → Circle → Circle → Type 0
+Spans w axis a b = upper axis a ⊖ lower axis b ≼ nat w
+
+-- so do n circles
+abbrev pub AllSpan : ℕ → (Point → Float) → ℕ → List Circle → Type 0
+AllSpan w axis n cs = (j m : ℕ) → j < n → m < n → Spans w axis (circle cs j) (circle cs m)
 
 -- ---- the box lo .. hi holds the circle x ± r up to u
 pub record BoxHolds (u : ℕ) (lo hi x r : Z) : Type 0 where
@@ -137,22 +145,21 @@ module _ {axis : Point → Float} {cs : List Circle} {member : ℕ → Bool} {lo
       pub side-near : Near (units (sub binary64 hi lo)) (units hi ⊖ units lo) (pow2 i)
       side-near = near-of (side-close .near)
 
-      -- centres of members at most D apart
-      pub side-within : (D : ℕ) → ((a b : ℕ) → a < length cs → b < length cs → T (member a) → T (member b) → Within (units (at axis cs a) ⊖ units (at axis cs b)) D)
-          → Within (units (sub binary64 hi lo)) (D + 2 * R + 3 * pow2 i)
-      side-within D apart =
+      -- a radius above one rounding makes the side positive, and it is at most the room that the members take on the axis with three roundings
+      pub side-upto : (w : ℕ) → nat (pow2 i) ≺ units (circle cs j .radius) → ((a b : ℕ) → a < length cs → b < length cs → T (member a) → T (member b) → Spans w axis (circle cs a) (circle cs b))
+          → Upto (w + 3 * pow2 i) (sub binary64 hi lo)
+      side-upto w thick spans =
           let a = high-of-member in
           let b = low-of-member in
-          spread (units (sub binary64 hi lo)) (units hi) (units lo) (units (at axis cs (a .0))) (units (circle cs (a .0) .radius)) (units (at axis cs (b .0))) (units (circle cs (b .0) .radius)) side-near
-          (a .3) (b .3) (rs (a .0) (a .1) .within) (rs (b .0) (b .1) .within) (apart (a .0) (b .0) (a .1) (b .1) (a .2) (b .2))
-        where
-          spread : (s hi lo x r x' r' : Z) → Near s (hi ⊖ lo) (pow2 i) → Near hi (x ⊕ r) (pow2 i) → Near lo (x' ⊖ r') (pow2 i) → Within r R → Within r' R → Within (x ⊖ x') D
-              → Within s (D + 2 * R + 3 * pow2 i)
-          spread s hi lo x r x' r' h1 h2 h3 h4 h5 h6 = omega arith
-
-      -- a radius above one rounding makes the side positive
-      pub side-upto : (S : ℕ) → nat (pow2 i) ≺ units (circle cs j .radius) → Within (units (sub binary64 hi lo)) S → Upto S (sub binary64 hi lo)
-      side-upto S h w = record { fin = side-close .fin; sign = difference-sign hi lo (high-bounded .fin) (low-bounded .fin) (apart (units lo) (units hi) (units (at axis cs j)) (units (circle cs j .radius)) box-holds h); within = w }
+          let above = apart (units lo) (units hi) (units (at axis cs j)) (units (circle cs j .radius)) box-holds thick in
+          record {
+            fin = side-close .fin;
+            sign = difference-sign hi lo (high-bounded .fin) (low-bounded .fin) above;
+            within = spread (units (sub binary64 hi lo)) (units hi) (units lo) (upper axis (circle cs (a .0))) (lower axis (circle cs (b .0))) side-near (a .3) (b .3) above (spans (a .0) (b .0) (a .1) (b .1) (a .2) (b .2));
+          }
         where
           apart : (lo hi x r : Z) → BoxHolds (pow2 i) lo hi x r → nat (pow2 i) ≺ r → lo ≺ hi
           apart lo hi x r h k = omega arith
+
+          spread : (s hi lo x y : Z) → Near s (hi ⊖ lo) (pow2 i) → Near hi x (pow2 i) → Near lo y (pow2 i) → lo ≺ hi → x ⊖ y ≼ nat w → Within s (w + 3 * pow2 i)
+          spread s hi lo x y h1 h2 h3 h4 h5 = omega arith

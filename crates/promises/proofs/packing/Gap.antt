@@ -33,6 +33,10 @@ packedReach i Q M X = Q + M + 2 * X + 7 * pow2 i
 abbrev pub packedSlack : ℕ → ℕ → ℕ
 packedSlack h i = 9 * pow2 i + 9 * pow2 h
 
+-- the room that the circles in so many lines take, each of a width of at most M
+abbrev pub gridRoom : ℕ → ℕ → ℕ → ℕ → ℕ
+gridRoom h i M lines = lines * (M + pow2 i) + packedSlack h i
+
 module _ {h i Q M X : ℕ} (room : Room h i Q M X) where
   -- a side in the middle of its cell
   centred-is : (cell b s : Float) → Bounded Q cell → Bounded M b → Bounded M s
@@ -155,3 +159,9 @@ module _ {h i Q M X : ℕ} (room : Room h i Q M X) where
 pub gap-in-cells : (cell b cell' pad y r y' r' : Z) (h i : ℕ) → (y ⊕ r) ⊕ (y ⊕ r) ⊕ pad ≼ cell ⊕ cell ⊕ b ⊕ b ⊕ nat (8 * pow2 i + 9 * pow2 h)
     → cell' ⊕ cell' ⊕ pad ≼ (y' ⊖ r') ⊕ (y' ⊖ r') ⊕ nat (8 * pow2 i + 9 * pow2 h) → cell ⊕ b ≼ cell' ⊕ nat (pow2 i) → pad ≼ (y' ⊖ r') ⊖ (y ⊕ r) ⊕ nat (packedSlack h i)
 gap-in-cells cell b cell' pad y r y' r' h i k l m = omega arith
+
+-- ---- the lines lie between 0 and L
+pub span-in-cells : (cell b cell' pad y r y' r' : Z) (h i c M L : ℕ) → (y ⊕ r) ⊕ (y ⊕ r) ⊕ pad ≼ cell ⊕ cell ⊕ b ⊕ b ⊕ nat (8 * pow2 i + 9 * pow2 h)
+    → cell' ⊕ cell' ⊕ pad ≼ (y' ⊖ r') ⊕ (y' ⊖ r') ⊕ nat (8 * pow2 i + 9 * pow2 h) → Within cell c → Within b M → nat 0 ≼ cell' → nat 0 ≼ pad → c + M ≤ L
+    → (y ⊕ r) ⊖ (y' ⊖ r') ≼ nat (L + packedSlack h i)
+span-in-cells cell b cell' pad y r y' r' h i c M L h1 h2 h3 h4 h5 h6 h7 = omega arith

@@ -1,4 +1,5 @@
--- One axis of the whole packing: every circle of a cluster is shifted by one number, and two circles whose boxes stand in different lines are the padding apart.
+-- One axis of the whole packing: every circle of a cluster is shifted by one number, two circles whose boxes stand in different lines are the padding apart, and
+-- all of them take no more room than the lines.
 use Prim.Native.Nat.{ℕ, _+_, _*_, _≤_, _<_}
 use native.Mathlib.Nat.{mul-le-mul-right}
 use native.Mathlib.Omega.{arith}
@@ -16,11 +17,11 @@ use Rattle.scope.specs.Links.{circle}
 use Rattle.scope.specs.Gauge.{middle}
 use Rattle.scope.specs.Packing.{breadth, start, placed}
 use Rattle.scope.specs.Promises.{units}
-use Rattle.promises.proofs.numbers.Bounded.{Bounded, Upto, bounded, wider}
+use Rattle.promises.proofs.numbers.Bounded.{Bounded, Upto, bounded, wider, not-below}
 use Rattle.promises.proofs.packing.Cells.{breadth-upto, breadth-holds, start-upto, line-ends-before-later}
 use Rattle.promises.proofs.packing.BoxSides.{at, EndsOf, low-bounded, high-bounded, box-holds, side-near}
 use Rattle.promises.proofs.packing.Shift.{ShiftedBy}
-use Rattle.promises.proofs.packing.Gap.{Room, packedReach, packedSlack, InCell, packed-shift, packed-bounded, lower-in-cell, upper-in-cell, gap-in-cells}
+use Rattle.promises.proofs.packing.Gap.{Room, packedReach, packedSlack, gridRoom, InCell, packed-shift, packed-bounded, lower-in-cell, upper-in-cell, gap-in-cells, span-in-cells}
 
 -- how far cluster a is shifted: from the middle of its box to that of its cell
 abbrev pub clusterShift : ℕ → (ℕ → ℕ) → (ℕ → Float) → Float → (ℕ → Float) → (ℕ → Float) → ℕ → Float
@@ -54,10 +55,11 @@ module _ {h i Q X S P B R lines : ℕ} {axis : Point → Float} {cs : List Circl
   starts-fit : lines * (S + P + pow2 h + pow2 i) ≤ pow2 (54 + i)
   starts-fit = omega (arith, A .lines-fit, A .room .positions)
 
+  line-start-upto : (a : ℕ) → a < k → Upto (line a * (S + P + pow2 h + pow2 i)) (start widths (line a))
+  line-start-upto a l = start-upto i (A .room .ti) widths lines (S + P + pow2 h) starts-fit (λ j m. width-upto j) (line a) (omega (arith, A .inside a l))
+
   start-bounded : (a : ℕ) → a < k → Bounded Q (start widths (line a))
-  start-bounded a l =
-      let s = start-upto i (A .room .ti) widths lines (S + P + pow2 h) starts-fit (λ j m. width-upto j) (line a) (omega (arith, A .inside a l)) in
-      wider (fewer (line a) lines (S + P + pow2 h + pow2 i) (A .inside a l) (A .lines-fit)) (bounded s)
+  start-bounded a l = wider (fewer (line a) lines (S + P + pow2 h + pow2 i) (A .inside a l) (A .lines-fit)) (bounded (line-start-upto a l))
     where
       fewer : (j c D : ℕ) → j < c → c * D ≤ Q → j * D ≤ Q
       fewer j c D k l = omega (arith, mul-le-mul-right D k)
@@ -109,3 +111,20 @@ module _ {h i Q X S P B R lines : ℕ} {axis : Point → Float} {cs : List Circl
     pub other-line-clear : (j m : ℕ) → j < length cs → m < length cs → (line (number j) < line (number m)) ⊎ (line (number m) < line (number j)) → Clear j m ⊎ Clear m j
     other-line-clear j m l n (inl d) = inl (earlier-line-clear j m l n d)
     other-line-clear j m l n (inr d) = inr (earlier-line-clear m j n l d)
+
+    -- a padding that is not below 0 keeps every circle in its line
+    pub packed-span : nat 0 ≼ units pad → (j m : ℕ) → j < length cs → m < length cs
+        → (units (y j) ⊕ units (circle cs j .radius)) ⊖ (units (y m) ⊖ units (circle cs m .radius)) ≼ nat (gridRoom h i (S + P + pow2 h) lines)
+    packed-span low j m l n =
+        let a = number j in
+        let b = number m in
+        let first = line-start-upto a (A .numbered j l) in
+        let second = line-start-upto b (A .numbered m n) in
+        span-in-cells (units (start widths (line a))) (units (widths (line a))) (units (start widths (line b))) (units pad) (units (y j)) (units (circle cs j .radius)) (units (y m)) (units (circle cs m .radius)) h i
+        (line a * (S + P + pow2 h + pow2 i)) (S + P + pow2 h) (lines * (S + P + pow2 h + pow2 i))
+        (upper-in-cell (A .room) (in-cell j l) (y j) (unfold placed in shifted-by j l))
+        (lower-in-cell (A .room) (in-cell m n) (y m) (unfold placed in shifted-by m n))
+        (first .within) (width-upto (line a) .within) (not-below (start widths (line b)) (second .sign)) low (last-line (line a) lines (S + P + pow2 h) (pow2 i) (A .inside a (A .numbered j l)))
+      where
+        last-line : (j c M w : ℕ) → j < c → j * (M + w) + M ≤ c * (M + w)
+        last-line j c M w l = omega (arith, mul-le-mul-right (M + w) l)

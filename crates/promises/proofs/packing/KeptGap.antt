@@ -1,4 +1,5 @@
--- The gap of two circles as scope states it, from the space between their boxes on one side; two circles that are shifted by one number keep that space.
+-- The gap of two circles as scope states it, from the space between their boxes on one side; two circles that are shifted by one number keep that space and the
+-- room that they take.
 use Prim.Native.Nat.{ℕ, _+_, _*_, _≤_}
 use native.Mathlib.Omega.{arith}
 use mathlib.Core.Path.{_≡_}
@@ -14,6 +15,7 @@ use Rattle.scope.specs.Promises.{units, xAxis, yAxis, lower, upper, larger, gap
 use Rattle.laws.proofs.Cases.{tested, is-true, is-false}
 use Rattle.promises.proofs.numbers.Bounded.{joined}
 use Rattle.promises.proofs.packing.Shift.{IsSum}
+use Rattle.promises.proofs.packing.BoxSides.{Spans}
 
 -- on an axis the box of circle b lies above that of circle a by the padding, up to e
 abbrev pub Above : ℕ → Float → (Point → Float) → Circle → Circle → Type 0
@@ -35,14 +37,28 @@ pub larger-above : (g a b : Z) → (g ≼ a) ⊎ (g ≼ b) → g ≼ larger a b
 larger-above g a b (inl h) = joined g a (larger a b) h (larger-bounds a b .0)
 larger-above g a b (inr h) = joined g b (larger a b) h (larger-bounds a b .1)
 
--- two circles shifted by one number keep their gap, up to two roundings
-module _ (o s t : ℕ) (fits : s + 2 * pow2 o ≤ t) (pad K : Float) (axis : Point → Float) where
-  pub kept-above : (a b a' b' : Circle) → IsSum o K (axis (a .center)) (axis (a' .center)) → IsSum o K (axis (b .center)) (axis (b' .center)) → a' .radius ≡ a .radius → b' .radius ≡ b .radius
-      → Above s pad axis a b → units pad ⊖ nat t ≼ lower axis b' ⊖ upper axis a'
-  kept-above a b a' b' p q e f h = rw (e, f) (go (units pad) (units K) (units (axis (a .center))) (units (a .radius)) (units (axis (b .center))) (units (b .radius)) (units (axis (a' .center))) (units (axis (b' .center))) (p .near) (q .near) h)
+-- ---- two circles shifted by one number keep the space between their boxes, up to two roundings
+module _ (o : ℕ) (K : Float) (axis : Point → Float) (a b a' b' : Circle) (p : IsSum o K (axis (a .center)) (axis (a' .center))) (q : IsSum o K (axis (b .center)) (axis (b' .center)))
+    (e : a' .radius ≡ a .radius) (f : b' .radius ≡ b .radius) where
+  space-kept : Near (lower axis b' ⊖ upper axis a') (lower axis b ⊖ upper axis a) (2 * pow2 o)
+  space-kept = rw (e, f) (go (units K) (units (axis (a .center))) (units (a .radius)) (units (axis (b .center))) (units (b .radius)) (units (axis (a' .center))) (units (axis (b' .center))) (p .near) (q .near))
     where
-      go : (g k x r y q x' y' : Z) → Near x' (x ⊕ k) (pow2 o) → Near y' (y ⊕ k) (pow2 o) → g ≼ (y ⊖ q) ⊖ (x ⊕ r) ⊕ nat s → g ⊖ nat t ≼ (y' ⊖ q) ⊖ (x' ⊕ r)
-      go g k x r y q x' y' h1 h2 h3 = omega arith
+      go : (k x r y q x' y' : Z) → Near x' (x ⊕ k) (pow2 o) → Near y' (y ⊕ k) (pow2 o) → Near ((y' ⊖ q) ⊖ (x' ⊕ r)) ((y ⊖ q) ⊖ (x ⊕ r)) (2 * pow2 o)
+      go k x r y q x' y' h1 h2 = omega arith
+
+  -- so their gap
+  pub kept-above : (s t : ℕ) → s + 2 * pow2 o ≤ t → (pad : Float) → Above s pad axis a b → units pad ⊖ nat t ≼ lower axis b' ⊖ upper axis a'
+  kept-above s t fits pad h = go (units pad) (lower axis b ⊖ upper axis a) (lower axis b' ⊖ upper axis a') space-kept h
+    where
+      go : (g z z' : Z) → Near z' z (2 * pow2 o) → g ≼ z ⊕ nat s → g ⊖ nat t ≼ z'
+      go g z z' h1 h2 = omega arith
+
+  -- and the room that they take
+  pub kept-span : (w : ℕ) → Spans w axis a b → Spans (w + 2 * pow2 o) axis a' b'
+  kept-span w h = go (upper axis a) (lower axis b) (upper axis a') (lower axis b') space-kept h
+    where
+      go : (x y x' y' : Z) → Near (y' ⊖ x') (y ⊖ x) (2 * pow2 o) → x ⊖ y ≼ nat w → x' ⊖ y' ≼ nat (w + 2 * pow2 o)
+      go x y x' y' h1 h2 = omega arith
 
 -- ---- at a larger bound
 looser : (p g : Z) (t u : ℕ) → t ≤ u → p ⊖ nat t ≼ g → p ⊖ nat u ≼ g

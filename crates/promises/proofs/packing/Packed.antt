@@ -1,5 +1,5 @@
--- Packing of the lists of scope: every packed coordinate is the handed one with one number of its cluster added, the radius stays, and circles of different
--- clusters are the padding apart.
+-- Packing of the lists of scope: every packed coordinate is the handed one with one number of its cluster added, the radius stays, circles of different clusters
+-- are the padding apart, and all of them take no more room than the columns and the rows.
 use Prim.Native.Nat.{ℕ, _+_, _*_, _≤_, _<_}
 use mathlib.Core.Path.{_≡_, ap, _∙_, subst, sym}
 use mathlib.Core.Logic.{_⊎_, inl, inr, _≢_}
@@ -16,16 +16,16 @@ use Rattle.shapes.specs.Lift.{lift}
 use Rattle.scope.specs.Links.{circle}
 use Rattle.scope.specs.Offset.{translated}
 use Rattle.scope.specs.Gauge.{inCluster}
-use Rattle.scope.specs.Packing.{rows, places, packed, rectangle, rectangleArea, widthAt, heightAt}
+use Rattle.scope.specs.Packing.{columns, rows, places, packed, rectangle, rectangleArea, widthAt, heightAt}
 use Rattle.scope.specs.Padding.{boxes, shifted}
 use Rattle.scope.specs.Promises.{units, xAxis, yAxis}
 use Rattle.promises.proofs.numbers.Bounded.{Bounded}
 use Rattle.promises.proofs.packing.Places.{listed-place-below-count, same-listed-place-same-box, cells-differ, column-below, row-below}
-use Rattle.promises.proofs.packing.BoxSides.{at, x-ends, y-ends}
+use Rattle.promises.proofs.packing.BoxSides.{at, Spans, AllSpan, x-ends, y-ends}
 use Rattle.promises.proofs.packing.Shift.{ShiftedBy, Step}
-use Rattle.promises.proofs.packing.Gap.{Room, packedReach, packedSlack}
+use Rattle.promises.proofs.packing.Gap.{Room, packedReach, packedSlack, gridRoom}
 use Rattle.promises.proofs.packing.KeptGap.{Above, ApartOn}
-use Rattle.promises.proofs.packing.Grid.{OneAxis, cluster-shift, packed-within-reach, other-line-clear}
+use Rattle.promises.proofs.packing.Grid.{OneAxis, cluster-shift, packed-within-reach, other-line-clear, packed-span}
 use Rattle.promises.proofs.packing.PackedCircles.{boxes-length, width-is, height-is, shifted-length, columnsOf, left, right, bottom, top, column, row, shiftAcross, shiftUp, packed-circle}
 
 -- a circle with a centre within B on each axis, and a radius within R that the lift keeps
@@ -48,6 +48,7 @@ pub record Packable (h i Q X S P B R : ℕ) (proportion : Float) (count : ℕ) (
   pub heights : (a : ℕ) → a < count → Bounded S (heightAt (boxes count numbers cs) a)
   pub areas : (a : ℕ) → a < count → Fin binary64 (rectangleArea (rectangle (boxes count numbers cs) a))
   pub padding : Bounded P pad
+  pub padding-not-negative : nat 0 ≼ units pad
 
 module _ {h i Q X S P B R : ℕ} {proportion : Float} {count : ℕ} {numbers : List ℕ} {cs : List Circle} {pad : Float} (A : Packable h i Q X S P B R proportion count numbers cs pad) where
   abbrev rects : List Rectangle
@@ -146,3 +147,18 @@ module _ {h i Q X S P B R : ℕ} {proportion : Float} {count : ℕ} {numbers : L
         | inl d ↦ inl (elim (other-line-clear x-axis (at xAxis out) packed-x j m l n d) [ inl g ↦ inl (with-radii xAxis j m l n g) | inr g ↦ inr (with-radii xAxis m j n l g) ])
         | inr d ↦ inr (elim (other-line-clear y-axis (at yAxis out) packed-y j m l n d) [ inl g ↦ inl (with-radii yAxis j m l n g) | inr g ↦ inr (with-radii yAxis m j n l g) ])
       ]
+
+  -- ---- the room that they take: that of the columns across, that of the rows up
+  span-with-radii : (axis : Point → Float) (w j m : ℕ) → j < length cs → m < length cs
+      → (units (at axis out j) ⊕ units (circle cs j .radius)) ⊖ (units (at axis out m) ⊖ units (circle cs m .radius)) ≼ nat w → Spans w axis (circle out j) (circle out m)
+  span-with-radii axis w j m l n g = rw (packed-radius j l, packed-radius m n) g
+
+  pub packed-span-x : AllSpan (gridRoom h i (S + P + pow2 h) (columns count proportion)) xAxis (length cs) out
+  packed-span-x j m l n =
+      subst (λ (k : ℕ). Spans (gridRoom h i (S + P + pow2 h) (columns k proportion)) xAxis (circle out j) (circle out m)) (boxes-length count numbers cs)
+      (span-with-radii xAxis (gridRoom h i (S + P + pow2 h) (columnsOf proportion rects)) j m l n (packed-span x-axis (at xAxis out) packed-x (A .padding-not-negative) j m l n))
+
+  pub packed-span-y : AllSpan (gridRoom h i (S + P + pow2 h) (rows count (columns count proportion))) yAxis (length cs) out
+  packed-span-y j m l n =
+      subst (λ (k : ℕ). Spans (gridRoom h i (S + P + pow2 h) (rows k (columns k proportion))) yAxis (circle out j) (circle out m)) (boxes-length count numbers cs)
+      (span-with-radii yAxis (gridRoom h i (S + P + pow2 h) (rows (length rects) (columnsOf proportion rects))) j m l n (packed-span y-axis (at yAxis out) packed-y (A .padding-not-negative) j m l n))

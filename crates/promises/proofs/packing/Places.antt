@@ -1,7 +1,7 @@
 -- Boxes of finite areas get distinct places below their count, and two places lie in different columns or in different rows.
 -- The order of the boxes is total, and what goes before a box goes before every box that it goes before.
 use Prim.Native.Nat.{ℕ, _+_, _-_, _*_, _/_, _%_, _≤_, _<_}
-use native.Mathlib.Nat.{le-trans, mod-lt, div-add-mod', div-lt-iff-lt-mul, eq-or-lt-of-le, le-of-suc-le-suc}
+use native.Mathlib.Nat.{le-trans, mod-lt, div-add-mod', div-mul-le-self, div-lt-iff-lt-mul, eq-or-lt-of-le, le-of-suc-le-suc}
 use native.Mathlib.Omega.{arith}
 use native.Mathlib.Decide.{decLt}
 use mathlib.Core.Path.{_≡_, sym, ap, _∙_}
@@ -123,6 +123,11 @@ rows-hold k cols p = let d = div-add-mod' (k + (cols - 1)) cols in let m = mod-l
 pub rows-at-most : (k cols r : ℕ) → 0 < cols → k ≤ r * cols → rows k cols ≤ r
 unfolding rows
 rows-at-most k cols r p h = le-of-suc-le-suc (div-lt-iff-lt-mul p .1 (omega arith))
+
+-- the last row is not empty
+pub rows-filled : (k cols : ℕ) → 0 < cols → cols * rows k cols < k + cols
+unfolding rows
+rows-filled k cols p = omega (arith, div-mul-le-self (k + (cols - 1)) cols)
 
 pub row-below : (k cols a : ℕ) → 0 < cols → a < k → a / cols < rows k cols
 row-below k cols a p l = div-lt-iff-lt-mul p .1 (le-trans l (rows-hold k cols p))

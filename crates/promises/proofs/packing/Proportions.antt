@@ -17,15 +17,14 @@ use Rattle.rounding.specs.Root.{root}
 use Rattle.rounding.proofs.Value.{Held, held, fin-finite, val-mag}
 use Rattle.rounding.proofs.Rounded.{RoundOf}
 use Rattle.rounding.proofs.Multiply.{mul-is}
-use Rattle.rounding.proofs.Order.{le-is}
 use Rattle.rounding.proofs.root.Operation.{root-finite, root-nearest}
 use Rattle.rounding.proofs.Double.{one, pow2-scale, pow2-mul}
-use Rattle.scope.specs.Numbers.{_≤ᶠ_, nought, whole}
+use Rattle.scope.specs.Numbers.{whole}
 use Rattle.scope.specs.Limits.{within, proportionOk}
 use Rattle.scope.specs.Packing.{columns}
 use Rattle.scope.specs.Computing.{computing}
 use Rattle.laws.proofs.Cases.{and-iff}
-use Rattle.promises.proofs.numbers.Bounded.{within-mag, pow2-positive, nought-upto}
+use Rattle.promises.proofs.numbers.Bounded.{within-mag, pow2-positive}
 use Rattle.promises.proofs.numbers.InRange.{Between, within-between}
 use Rattle.promises.proofs.numbers.Magnitude.{above-zero-sign}
 use Rattle.promises.proofs.numbers.NeverPast.{rounded-not-above, rounded-not-below, root-not-above, root-not-below}
@@ -164,21 +163,9 @@ module _ (k : ℕ) (few : k ≤ 2 ^ 53) (p : Float) (P : Proportion p) where
   unfolding columns
   columns-at-most c h = raised-at-most product product-fin c (le-trans product-to h)
 
-  -- so does the product, as a float
-  pub product-within : (c : ℕ) → c ≤ 2 ^ 53 → 2 * mag binary64 countRoot ≤ c * pow2 60 → T (within nought (whole c) product)
-  unfolding within
-  product-within c small h =
-      let none = nought-upto 0 in
-      let end = whole-is c small in
-      let size = val-mag binary64 product product-positive in
-      and-iff (nought ≤ᶠ product) (product ≤ᶠ whole c) .1 (
-        le-is binary64 nought product (none .fin) product-fin .1 (rw size (omega (arith, none .within))),
-        le-is binary64 product (whole c) product-fin (end .fin) .1 (rw (size, val-mag binary64 (whole c) (end .sign), end .size) (omega (arith, product-to))),
-      )
-
-  -- for 64 boxes it is at most 16
-  pub product-within-16 : k ≤ 64 → T (within nought (whole 16) product)
-  product-within-16 most = product-within 16 (lit≤ tt) (omega (arith, root-8, pow2-scale 60 3))
+  -- for 64 boxes they are at most 16
+  pub columns-at-most-16 : k ≤ 64 → columns k p ≤ 16
+  columns-at-most-16 most = columns-at-most 16 (omega (arith, root-8, pow2-scale 60 3))
     where
       squared : (L M : ℕ) → M ≡ 8 * L → k * L * L ≤ M * M
       squared L M e = rw e (omega (arith, mul-le-mul-right (L * L) most))

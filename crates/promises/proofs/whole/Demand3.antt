@@ -19,7 +19,8 @@ use Rattle.scope.specs.Padding.{boxes, padding, packClusters}
 use Rattle.scope.specs.Centring.{centredLayout}
 use Rattle.scope.specs.Layout.{Layout, arranged}
 use Rattle.scope.specs.Promises.{Chain, Promises}
-use Rattle.promises.specs.Demand3.{bound, gapBound, Demand3, GapKept, DistanceKept, ReachKept, ChainKept}
+use Rattle.promises.specs.Demand3.{AreDoubles, bound, gapBound, Demand3, GapKept, DistanceKept, ReachKept, ChainKept}
+use Rattle.laws.specs.Limits.{WithinLimits}
 use Rattle.laws.proofs.Runs.{getD-filled-any}
 use Rattle.laws.proofs.Numbering.{Numbering}
 use Rattle.laws.proofs.Clusters.{clusters-numbering, same-number-iff-chain, same-filled-number-iff-chain}
@@ -31,11 +32,10 @@ use Rattle.promises.proofs.gauge.AllClusters.{ClustersCarried, clusters
 use Rattle.promises.proofs.offset.AfterOffset.{offset-length}
 use Rattle.promises.proofs.gauge.AfterGauge.{after-gauge-length, gauge-carries-clusters, gauge-keeps-radius, gauge-places, gauge-spread, shifts-error-small}
 use Rattle.promises.proofs.whole.Kept.{finite-kept, distance-promised, reach-promised}
-use Rattle.promises.proofs.packing.Returned.{Arranged}
 use Rattle.promises.proofs.packing.KeptGap.{apart-looser}
 use Rattle.promises.proofs.packing.Shift.{Step}
 use Rattle.promises.proofs.packing.Proportions.{Proportion, proportion-is}
-use Rattle.promises.proofs.whole.SixtyFour.{Gauged64, padding-64, proportion-arranged-64}
+use Rattle.promises.proofs.whole.SixtyFour.{Gauged64, Arranged64, padding-64, proportion-arranged-64}
 
 -- ---- the layout of accepted circles
 module _ (cs : List Circle) (rs : List Region) (factor : Float) (sound : (i : ℕ) → i < length cs → Sound (circle cs i)) (radius-fits : (i : ℕ) → i < length cs → T (fits binary64 (circle cs i .radius)))
@@ -64,7 +64,7 @@ module _ (cs : List Circle) (rs : List Region) (factor : Float) (sound : (i : �
   below : {i : ℕ} → i < length turned → i < n
   below h = rw turned-length at h
 
-  pub handed-over : Gauged64 g turned
+  handed-over : Gauged64 g turned
   handed-over = record {
     numbering = rw turned-length numbering;
     few = rw turned-length few;
@@ -81,7 +81,7 @@ module _ (cs : List Circle) (rs : List Region) (factor : Float) (sound : (i : �
     abbrev last : List Circle
     last = centredLayout (packClusters proportion (g .numbers) (boxes (g .count) (g .numbers) turned) pad turned)
 
-    packed : Arranged 37 38 gapBound (g .numbers) pad turned last
+    packed : Arranged64 proportion (g .count) (g .numbers) pad turned
     packed = proportion-arranged-64 handed-over factor factor-fits factor-ok proportion P
 
     -- after the shift of each cluster and before the centring
@@ -131,6 +131,16 @@ module _ (cs : List Circle) (rs : List Region) (factor : Float) (sound : (i : �
           chain = λ i j hi hj. same-filled-number-iff-chain n rs (tolerance rs) i j hi hj circleCap;
         }
 
+-- ---- of a call within the limits, whose floats are f64
+accepted-sound : (cs : List Circle) (factor : Float) (masks : List ℕ) (areas : List Float) → AreDoubles cs factor → WithinLimits cs factor masks areas → (i : ℕ) → i < length cs → Sound (circle cs i)
+accepted-sound cs factor masks areas d a i l = circle-accepted (circle cs i) (d .x i l) (d .y i l) (d .radius i l) (a .centres i l .0) (a .centres i l .1) (a .radii i l)
+
+pub accepted-handed-over : (cs : List Circle) (factor : Float) (masks : List ℕ) (areas : List Float) → AreDoubles cs factor → WithinLimits cs factor masks areas
+    → let rs = regions masks areas in let g = clusters (length cs) rs (tolerance rs) in
+    Gauged64 g (gauged (g .count) (g .numbers) (offset cs rs .circles))
+accepted-handed-over cs factor masks areas d a =
+    handed-over cs (regions masks areas) factor (accepted-sound cs factor masks areas d a) (d .radius) (a .radii) (d .factor) (a .factor-inside) (a .few-circles)
+
 -- ---- of an accepted call, whose floats are f64
 pub layout-promises : Demand3
 unfolding Demand3
@@ -139,8 +149,8 @@ layout-promises cs factor masks areas proportion d fit h =
     let a = within-limits cs factor masks areas (accepted .0) in
     let e = layout-answers cs factor masks areas proportion .on-acceptance h in
     subst (λ (l : Layout). Promises bound cs (regions masks areas) (l .result) (l .circles)) (sym e)
-    (arranged-promises cs (regions masks areas) factor (λ i l. circle-accepted (circle cs i) (d .x i l) (d .y i l) (d .radius i l) (a .centres i l .0) (a .centres i l .1) (a .radii i l)) (d .radius) (a .radii) (d .factor) (a .factor-inside)
-    (a .few-circles) proportion (proportion-is proportion fit (accepted .1)))
+    (arranged-promises cs (regions masks areas) factor (accepted-sound cs factor masks areas d a) (d .radius) (a .radii) (d .factor) (a .factor-inside) (a .few-circles)
+    proportion (proportion-is proportion fit (accepted .1)))
 
 -- ---- clause by clause
 pub layout-gap : GapKept

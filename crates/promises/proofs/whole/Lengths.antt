@@ -23,7 +23,7 @@ unfolding inTurn
 turns-length zero member cs = refl
 turns-length (suc a) member cs = rotate-length (member a) (inTurn a (λ b. rotateCluster (member b)) cs) ∙ turns-length a member cs
 
-gauged-length : (count : ℕ) (numbers : List ℕ) (cs : List Circle) → length (gauged count numbers cs) ≡ length cs
+pub gauged-length : (count : ℕ) (numbers : List ℕ) (cs : List Circle) → length (gauged count numbers cs) ≡ length cs
 unfolding gauged
 gauged-length count numbers cs = turns-length count (inCluster numbers) cs
 

@@ -6,17 +6,15 @@ use mathlib.Core.Bool.{false, _&&_}
 use mathlib.Core.List.{List}
 use lib.Dec.{T}
 use lib.IntN.{pos}
-use lib.Ieee.{Float, fin, binary64, le, fits}
+use lib.Ieee.{Float, fin, binary64, fits}
 use lib.ListN.{length}
 use Rattle.algebra.specs.Integer.{Z, nat, Within, _≼_}
 use Rattle.rounding.specs.Value.{mag, negative, val, Fin}
 use Rattle.rounding.specs.Scale.{pow2}
-use Rattle.rounding.proofs.Order.{le-is}
 use Rattle.shapes.specs.declared.circle.Circle.{Circle}
 use Rattle.shapes.specs.declared.rectangle.Rectangle.{Rectangle}
-use Rattle.scope.specs.Numbers.{nought}
 use Rattle.scope.specs.Limits.{circleCap, within, sideOk, paddingOk, factorOk, proportionOk}
-use Rattle.scope.specs.Links.{regions, circle}
+use Rattle.scope.specs.Links.{regions}
 use Rattle.scope.specs.Refusals.{badSide, badPadding, packRefusal}
 use Rattle.scope.specs.Groups.{Clusters, clusters}
 use Rattle.scope.specs.Tolerance.{tolerance}
@@ -31,31 +29,22 @@ use Rattle.laws.proofs.Runs.{any-at}
 use Rattle.laws.specs.Limits.{WithinLimits}
 use Rattle.laws.proofs.Accepted.{not-too-many-iff, not-bad-proportion-iff}
 use Rattle.laws.proofs.EntryPoints.{pack-reads}
-use Rattle.promises.proofs.numbers.Bounded.{Bounded, Upto}
-use Rattle.promises.proofs.numbers.Ranges.{circle-accepted}
+use Rattle.promises.proofs.numbers.Bounded.{Bounded, Upto, not-below}
+use Rattle.promises.proofs.numbers.InRange.{passes-from-nought}
 use Rattle.promises.proofs.packing.PackedCircles.{boxes-length}
 use Rattle.promises.proofs.whole.SixtyFour.{Gauged64, few-clusters, width-64, height-64, padding-64, padding-not-negative-64}
-use Rattle.promises.proofs.whole.Demand3.{handed-over}
-
--- a finite number from 0 to the upper end passes the test of a range
-passes : (hi x : Float) → Fin binary64 hi → Fin binary64 x → nat 0 ≼ units x → units x ≼ units hi → T (within nought hi x)
-unfolding within Fin fits val mag negative
-passes hi x q p low high = and-iff (le nought x) (le x hi) .1 (le-is binary64 nought x tt p .1 low, le-is binary64 x hi p q .1 high)
+use Rattle.promises.proofs.whole.Demand3.{accepted-handed-over}
 
 upper : {b : ℕ} {x : Z} → Within x b → x ≼ nat b
 upper {b} {x} h = omega arith
 
-not-below : (x : Float) {b : ℕ} → Upto b x → nat 0 ≼ units x
-unfolding val
-not-below x h = rw (h .sign) (omega arith)
-
 side-passes : (x : Float) → Upto (pow2 83) x → T (sideOk x)
 unfolding sideOk Fin fits val mag negative pow2
-side-passes x h = passes (fin false 1 (pos 23)) x tt (h .fin) (not-below x h) (upper (h .within))
+side-passes x h = passes-from-nought (fin false 1 (pos 23)) x tt (h .fin) (not-below x (h .sign)) (upper (h .within))
 
 padding-passes : (x : Float) → Bounded (pow2 86) x → nat 0 ≼ units x → T (paddingOk x)
 unfolding paddingOk Fin fits val mag negative pow2
-padding-passes x h low = passes (fin false 1 (pos 26)) x tt (h .fin) low (upper (h .within))
+padding-passes x h low = passes-from-nought (fin false 1 (pos 26)) x tt (h .fin) low (upper (h .within))
 
 -- ---- of what the gauge hands over
 module _ {g : Clusters} {cs : List Circle} (G : Gauged64 g cs) (factor : Float) (fit : T (fits binary64 factor)) (ok : T (factorOk factor)) where
@@ -85,7 +74,4 @@ pub layout-packs : (cs : List Circle) (factor : Float) (masks : List ℕ) (areas
     → WithinLimits cs factor masks areas → T (proportionOk proportion)
     → let rs = regions masks areas in let g = clusters (length cs) rs (tolerance rs) in let turned = gauged (g .count) (g .numbers) (offset cs rs .circles) in
     packRefusal (boxes (g .count) (g .numbers) turned) (padding (boxes (g .count) (g .numbers) turned) factor) proportion ≡ 0
-layout-packs cs factor masks areas proportion d a inside =
-    packing-accepts
-    (handed-over cs (regions masks areas) factor (λ i l. circle-accepted (circle cs i) (d .x i l) (d .y i l) (d .radius i l) (a .centres i l .0) (a .centres i l .1) (a .radii i l)) (d .radius) (a .radii) (d .factor) (a .factor-inside) (a .few-circles))
-    factor (d .factor) (a .factor-inside) proportion inside
+layout-packs cs factor masks areas proportion d a inside = packing-accepts (accepted-handed-over cs factor masks areas d a) factor (d .factor) (a .factor-inside) proportion inside

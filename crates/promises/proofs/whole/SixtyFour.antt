@@ -13,7 +13,7 @@ use Rattle.shapes.specs.declared.circle.Circle.{Circle}
 use Rattle.scope.specs.Limits.{circleCap, radiusOk, factorOk}
 use Rattle.scope.specs.Links.{circle}
 use Rattle.scope.specs.Groups.{Clusters}
-use Rattle.scope.specs.Packing.{columns, rectangle}
+use Rattle.scope.specs.Packing.{columns, rows, rectangle}
 use Rattle.scope.specs.Padding.{boxes, padding}
 use Rattle.scope.specs.Promises.{units}
 use Rattle.promises.specs.Demand3.{gapBound}
@@ -24,7 +24,7 @@ use Rattle.promises.proofs.packing.Columns.{GridFits}
 use Rattle.promises.proofs.packing.Proportions.{Proportion, grid-fits-64}
 use Rattle.promises.proofs.packing.ClusterBoxes.{Clustered}
 use Rattle.promises.proofs.packing.Returned.{Arranged, returned}
-use Rattle.promises.proofs.packing.Arrangement.{Budget, packed-and-centred, width-is-upto, height-is-upto, padding-bounded, padding-not-negative}
+use Rattle.promises.proofs.packing.Arrangement.{Budget, sheetRoom, packed-and-centred, width-is-upto, height-is-upto, padding-bounded, padding-not-negative}
 
 -- how far apart the centres of one cluster are on an axis, in units: (23/4) 2^20 and 2^-16
 abbrev pub spread64 : ℕ
@@ -51,6 +51,11 @@ budget64 = record {
 pub middle-fits-64 : 2 * pow2 37 + 4 * pow2 38 ≤ 2 * pow2 40
 unfolding pow2
 middle-fits-64 = lit≤ tt
+
+-- what packing and centring make of the circles, at these numbers
+abbrev pub Arranged64 : Float → ℕ → List ℕ → Float → List Circle → Type 0
+Arranged64 proportion count numbers pad cs =
+    Arranged 37 38 gapBound (sheetRoom 35 37 38 23 3 (columns count proportion)) (sheetRoom 35 37 38 23 3 (rows count (columns count proportion))) numbers pad cs (returned proportion count numbers cs pad)
 
 -- ---- what the gauge hands over: the circles of a layout with their cluster numbers
 pub record Gauged64 (g : Clusters) (cs : List Circle) : Type 0 where
@@ -102,10 +107,9 @@ module _ {g : Clusters} {cs : List Circle} (G : Gauged64 g cs) where
     padding-not-negative-64 = padding-not-negative budget64 clustered few-clusters factor (factor-bounded factor fit ok) (factor-not-negative factor fit ok)
 
     -- any proportion whose grid has at most 16 columns and rows
-    pub arranged-64 : (proportion : Float) → (2 ≤ g .count → GridFits 16 (g .count) (columns (g .count) proportion))
-        → Arranged 37 38 gapBound (g .numbers) pad cs (returned proportion (g .count) (g .numbers) cs pad)
-    arranged-64 proportion grid = packed-and-centred budget64 clustered few-clusters factor (factor-bounded factor fit ok) proportion grid
+    pub arranged-64 : (proportion : Float) → (0 < g .count → GridFits 16 (g .count) (columns (g .count) proportion)) → Arranged64 proportion (g .count) (g .numbers) pad cs
+    arranged-64 proportion grid = packed-and-centred budget64 clustered few-clusters factor (factor-bounded factor fit ok) (factor-not-negative factor fit ok) proportion grid
 
     -- so any from 1/4 to 4
-    pub proportion-arranged-64 : (proportion : Float) → Proportion proportion → Arranged 37 38 gapBound (g .numbers) pad cs (returned proportion (g .count) (g .numbers) cs pad)
-    proportion-arranged-64 proportion P = arranged-64 proportion (λ many. grid-fits-64 (g .count) (omega arith) few-clusters proportion P)
+    pub proportion-arranged-64 : (proportion : Float) → Proportion proportion → Arranged64 proportion (g .count) (g .numbers) pad cs
+    proportion-arranged-64 proportion P = arranged-64 proportion (λ some. grid-fits-64 (g .count) some few-clusters proportion P)

@@ -1,0 +1,4 @@
+pub mod Sheets
+pub mod Joining
+pub mod Doubles
+pub mod FirstStocks
