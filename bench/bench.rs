@@ -20,6 +20,13 @@ struct Record {
 }
 
 #[repr(C)]
+#[derive(Clone, Copy)]
+struct Point {
+    x: f64,
+    y: f64,
+}
+
+#[repr(C)]
 struct Answer {
     refusal: u8,
     count: usize,
@@ -51,6 +58,7 @@ type Layout = unsafe extern "C" fn(*mut Record, usize, f64, *const u64, usize, *
 type AreaClusters = unsafe extern "C" fn(usize, *const u64, usize, *const f64, usize, f64) -> Clusters;
 type PlainClusters = unsafe extern "C" fn(*const Record, usize) -> Clusters;
 type Root = unsafe extern "C" fn(f64) -> Length;
+type PointDistance = unsafe extern "C" fn(Point, Point) -> Length;
 
 // The calls of one library.
 struct Library {
@@ -58,10 +66,11 @@ struct Library {
     area_clusters: AreaClusters,
     clusters: PlainClusters,
     root: Root,
+    point_distance: PointDistance,
 }
 
 macro_rules! library {
-    ($link:literal, $layout:ident, $area_clusters:ident, $clusters:ident, $root:ident) => {{
+    ($link:literal, $layout:ident, $area_clusters:ident, $clusters:ident, $root:ident, $point_distance:ident) => {{
         #[link(name = $link, kind = "static")]
         unsafe extern "C" {
             fn $layout(
@@ -77,18 +86,26 @@ macro_rules! library {
             fn $area_clusters(n: usize, masks: *const u64, masks_len: usize, areas: *const f64, areas_len: usize, tolerance: f64) -> Clusters;
             fn $clusters(circles: *const Record, circles_len: usize) -> Clusters;
             fn $root(x: f64) -> Length;
+            fn $point_distance(p: Point, q: Point) -> Length;
         }
-        Library { layout: $layout, area_clusters: $area_clusters, clusters: $clusters, root: $root }
+        Library { layout: $layout, area_clusters: $area_clusters, clusters: $clusters, root: $root, point_distance: $point_distance }
     }};
 }
 
 fn now() -> Library {
-    library!("rundhefja", rundhefja_layout, rundhefja_area_clusters, rundhefja_clusters, rundhefja_root)
+    library!("rundhefja", rundhefja_layout, rundhefja_area_clusters, rundhefja_clusters, rundhefja_root, rundhefja_point_distance)
 }
 
 fn before() -> Option<Library> {
     #[cfg(before)]
-    return Some(library!("before", before_rundhefja_layout, before_rundhefja_area_clusters, before_rundhefja_clusters, before_rundhefja_root));
+    return Some(library!(
+        "before",
+        before_rundhefja_layout,
+        before_rundhefja_area_clusters,
+        before_rundhefja_clusters,
+        before_rundhefja_root,
+        before_rundhefja_point_distance
+    ));
     #[cfg(not(before))]
     return None;
 }
@@ -338,6 +355,10 @@ fn compare(name: &str, calls: usize, sides: Vec<Side>) {
     println!("{name:<44} {}, {}", figures.join(", "), ratios.join(", "));
 }
 
+// A place may differ by so much: the Rust has the C library's hypot here, which is not always the nearest number, and the search for a child's place may then end
+// elsewhere. tests/oracle compares the answers bit for bit, with a hypot that is exact.
+const LAST_PLACES: f64 = 1e-9;
+
 fn layouts(name: &str, cards: Vec<Card>, repeats: usize) {
     layouts_at::<eunoia::Circle>(name, cards, repeats);
 }
@@ -350,7 +371,7 @@ fn layouts_at<S: Shape>(name: &str, cards: Vec<Card>, repeats: usize) {
             let theirs: Vec<_> = card.rust::<S>(map).iter().map(S::numbers).collect();
             let placed = card.port(library);
             let ours: Vec<_> = placed.iter().map(|c| [c.x, c.y, c.radius]).collect();
-            assert_eq!(ours, theirs, "{name}: the answers differ");
+            assert!(ours.iter().flatten().zip(theirs.iter().flatten()).all(|(a, b)| (a - b).abs() <= LAST_PLACES), "{name}: the answers differ");
             assert!(placed.iter().map(|c| c.ink).eq(card.circles.iter().map(|c| c.ink)), "{name}: the inks differ");
         }
     }
@@ -435,6 +456,22 @@ fn main() {
         || {
             for &x in &numbers {
                 black_box(black_box(x).sqrt());
+            }
+        },
+    );
+    let points: Vec<Point> = (0..100_000).map(|_| Point { x: random.unit() * 1e3, y: random.unit() * 1e3 }).collect();
+    report(
+        "the distance alone",
+        points.len() - 1,
+        |library| {
+            for pair in points.windows(2) {
+                black_box(unsafe { (library.point_distance)(black_box(pair[0]), black_box(pair[1])) });
+            }
+        },
+        || {
+            for pair in points.windows(2) {
+                let [p, q] = [pair[0], pair[1]].map(|p| eunoia::Point::new(p.x, p.y));
+                black_box(black_box(p).distance(&black_box(q)));
             }
         },
     );

@@ -193,7 +193,8 @@ rundhefja_count rundhefja_columns(size_t k, double proportion);
 /* The double nearest the exact root; -0 and infinity give themselves. Refuses 12. */
 rundhefja_length rundhefja_root(double x);
 
-/* The distance of two points (refuses 3); of two circles, 0 if they touch or overlap (refuses 3, 4). */
+/* The distance of two points, the double nearest the exact root of the exact sum of the squares of the two rounded differences, as IEEE 754's hypot has it
+ * (refuses 3); of two circles, 0 if they touch or overlap (refuses 3, 4). */
 rundhefja_length rundhefja_point_distance(rundhefja_point p, rundhefja_point q);
 rundhefja_length rundhefja_distance(rundhefja_circle a, rundhefja_circle b);
 

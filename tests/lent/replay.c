@@ -541,10 +541,12 @@ static const struct {
     {"whole cards", card},
     {"whole layouts", layout},
     {"charges", charge},
+    {"hypot", NULL},
     {"fields", field},
 };
 
-enum { KINDS = sizeof kinds / sizeof *kinds };
+/* The hypot of any two numbers is no call of the interface: records of it are left out. */
+enum { KINDS = sizeof kinds / sizeof *kinds, LEFT_OUT = 13 };
 
 static unsigned long seen[KINDS], agreed[KINDS];
 
@@ -563,10 +565,13 @@ int main(void) {
         record r = {body, 0, 0};
         r.length = head[1] + 256 * (size_t)head[2];
         kind = got == sizeof head && fread(body, 1, r.length, stdin) == r.length && head[0] < KINDS ? head[0] : 0;
+        if (kind == LEFT_OUT) continue;
         seen[kind]++;
         agreed[kind] += kind > 0 && kinds[kind].agrees(&r);
     }
-    for (kind = 1; kind < KINDS; kind++) wrong |= print(kind);
+    for (kind = 1; kind < KINDS; kind++) {
+        if (kind != LEFT_OUT) wrong |= print(kind);
+    }
     wrong |= print(0);
     printf("inks %lu of %lu\n", inks_back, inks_lent);
     printf("written %lu of %lu\n", files_back, files_read);

@@ -1,6 +1,7 @@
 // Inputs of kind 10, whole cards: what the layout distinguishes (touching, equal, nested circles, parents and children by areas, equal boxes, ends of the
 // ranges), inks of every size, some of them twice, and files damaged in every way that document 01 has a number for.
-use crate::card::{Card, Outcome};
+use crate::card::{self, Card, Outcome};
+use crate::eunoia::Closed;
 use crate::{Random, above, below};
 use std::collections::BTreeMap;
 
@@ -116,6 +117,9 @@ pub fn card(random: &mut Random, small: bool) -> Card {
         area_at_the_tolerance(random, &mut areas);
     }
     scale(random, &mut circles);
+    if n > 2 && random.below(2) == 0 {
+        bar_a_child(random, &mut circles, &areas);
+    }
     let factor = match random.below(8) {
         0 => 0.0,
         1 => 1.0,
@@ -247,6 +251,23 @@ fn families(random: &mut Random, n: usize, areas: &mut Areas) -> Vec<[f64; 3]> {
         circles[j] = [x, y, circles[j][2]];
     }
     circles
+}
+
+// Another circle touches a child where the layout sets it, or misses that by a last place: then it may be barred.
+fn bar_a_child(random: &mut Random, circles: &mut [[f64; 3]], areas: &Areas) {
+    let inks = vec![0; circles.len()];
+    let card = Card { factor: 0.0, circles: circles.to_vec(), inks, regions: areas.iter().map(|(mask, area)| (*mask, *area)).collect() };
+    let (_, seen) = card::layout(&card);
+    if seen.set.is_empty() {
+        return;
+    }
+    let (i, set) = &seen.set[random.below(seen.set.len() as u64) as usize];
+    let set = [set[0], set[1], set[2]];
+    let around = |k: usize| crate::circle(circles[k]).contains(&crate::circle(set));
+    let others: Vec<usize> = (0..circles.len()).filter(|k| k != i && !around(*k)).collect();
+    if !others.is_empty() {
+        circles[random.pick(&others)] = random.nearly_touching(set);
+    }
 }
 
 fn child(random: &mut Random, parent: [f64; 3]) -> [f64; 3] {

@@ -1,4 +1,4 @@
-// Inputs of kind 13, fields: a file and a place in it. A field knows no order and no count, so most files are a few fields of any tag and any patterns, whole
+// Inputs of kind 14, fields: a file and a place in it. A field knows no order and no count, so most files are a few fields of any tag and any patterns, whole
 // or damaged; the others are cards.
 use crate::cards::{self, Field};
 use crate::{Random, card};

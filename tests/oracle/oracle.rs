@@ -1,14 +1,16 @@
 // Writes records of inputs and the answers of the patched Rust, for the program `replay` and for tests/lent:
 //     oracle KIND COUNT SEED          COUNT random inputs of a kind
-//     oracle KIND COUNT SEED small    of kinds 4, 5 and 8 to 13: mostly short records
-//     oracle KIND COUNT SEED stats    of kinds 10, 11 and 12: and on standard error how often each case came up
+//     oracle KIND COUNT SEED small    of kinds 4, 5, 8 to 12 and 14: mostly short records
+//     oracle KIND COUNT SEED stats    of kinds 1 to 4 and 10 to 13: and on standard error how often each case came up
 //     oracle at P KIND COUNT SEED     inputs of kind 8, 11 or 12 at a proportion, until COUNT of them are accepted; `small` and `stats` as above
 //     oracle columns P                a record of kind 7 for each of 0 to 65 boxes, at a proportion
 //     oracle charges                  a record of kind 12 for each boundary of a charge
+//     oracle near-tangent             records of kinds 1 to 4 for circles that fall otherwise than by the root of rounded squares
+//     oracle hypots SEED              a record of kind 13 for each of the sides that are stored
 //     oracle files NAME...            a record of kind 10 for each of the card files
 //     oracle text                     what program `card` prints for the card file on standard input
 // A record is a kind byte, a two-byte length and a body: the input, then the answer; all numbers little-endian. Refusals are worked out here from document
-// 01's table, since the Rust asserts or takes what comes; so are the fields of kind 13, as the Rust has no card file. The Rust sees circles without their inks:
+// 01's table, since the Rust asserts or takes what comes; so are the fields of kind 14, as the Rust has no card file. The Rust sees circles without their inks:
 // those that come back are those handed in, and two equal ones of a list are refused with 14, after all of document 01. A proportion out of range is refused
 // with 16, after these, and then a price with 17. Either zero is written as 0, and every NaN as one.
 #[path = "../../target/oracle/eunoia.rs"]
@@ -17,9 +19,12 @@ mod card;
 mod cards;
 mod charges;
 mod fields;
+mod hypot;
 mod layouts;
+mod sides;
 
 use eunoia::*;
+use sides::{Reach, Sides};
 use std::collections::{BTreeMap, BTreeSet};
 use std::io::{Read, Write};
 
@@ -82,15 +87,41 @@ impl Random {
     // A circle that touches another from inside or outside, equals it or shares its centre, or any.
     fn beside(&mut self, c: [f64; 3], wild: u64) -> [f64; 3] {
         let r = self.radius(0);
-        match self.below(8) {
+        match self.below(10) {
             0 => c,
             1 => [c[0], c[1], r],
             2 => [c[0] + c[2] + r, c[1], r],
             3 => [c[0], c[1] - (c[2] + r), r],
             4 => [c[0] + (c[2] - r), c[1], r],
             5 => [c[0] + 3.0 * r, c[1] + 4.0 * r, 5.0 * r - c[2]],
+            6 | 7 => self.nearly_touching(c),
             _ => self.circle(wild),
         }
+    }
+    // The distance for two differences, or a number next to it; also what the root of rounded squares gives.
+    fn about(&mut self, [x, y]: [f64; 2]) -> f64 {
+        let distance = hypot::hypot(x, y);
+        match self.below(6) {
+            0 => above(distance),
+            1 if distance > 0.0 => below(distance),
+            2 => hypot::rounded_squares(x, y),
+            _ => distance,
+        }
+    }
+    // A circle that touches another in any direction, from outside, from inside or around it, or misses that by a last place.
+    fn nearly_touching(&mut self, c: [f64; 3]) -> [f64; 3] {
+        let apart = sides::one(self, Reach::Points);
+        let size = apart[0].abs().max(apart[1].abs());
+        let by = if size > 1e-300 { (c[2] / size).log2().round().exp2() * self.pick(&[0.5, 1.0, 1.0, 2.0]) } else { 1.0 };
+        let [x, y] = [c[0] + apart[0] * by, c[1] + apart[1] * by];
+        let about = self.about([x - c[0], y - c[1]]);
+        let radius = match self.below(3) {
+            0 => c[2] - about,
+            1 => c[2] + about,
+            _ => about - c[2],
+        };
+        let radius = if bad_radius(radius) { (about - c[2]).abs() } else { radius };
+        if bad_point([x, y]) || bad_radius(radius) { self.circle(0) } else { [x, y, radius] }
     }
     // Any ink number, and often one next to an end of a byte.
     fn ink(&mut self) -> u16 {
@@ -222,6 +253,9 @@ fn below(x: f64) -> f64 {
 
 // ---- records
 
+// The pattern that stands for every NaN.
+const NAN: u64 = 0x7ff8_0000_0000_0000;
+
 #[derive(Default)]
 struct Record(Vec<u8>);
 
@@ -241,7 +275,7 @@ impl Record {
     }
     // An answer.
     fn result(&mut self, x: f64) {
-        self.word(if x == 0.0 { 0 } else if x.is_nan() { 0x7ff8_0000_0000_0000 } else { x.to_bits() });
+        self.word(if x == 0.0 { 0 } else if x.is_nan() { NAN } else { x.to_bits() });
     }
     // A circle that is handed in, and one that comes back.
     fn circle(&mut self, c: [f64; 3], ink: u16) {
@@ -329,10 +363,37 @@ fn grouped(record: &mut Record, refusal: usize, clusters: &[Vec<usize>]) {
 
 // ---- one record of each kind
 
-fn distance_record(random: &mut Random, record: &mut Record) {
-    let wild = random.pick(&[0, 4, 16]);
-    let p = [random.coordinate(wild), random.coordinate(wild)];
-    let q = [random.coordinate(wild), random.coordinate(wild)];
+// Two points anywhere, or two whose differences are chosen and come out exactly: one is the origin, or it is the other's mirror image.
+fn points(random: &mut Random, sides: &mut Sides) -> [[f64; 2]; 2] {
+    if random.below(3) == 0 {
+        let wild = random.pick(&[0, 4, 16]);
+        return [[random.coordinate(wild), random.coordinate(wild)], [random.coordinate(wild), random.coordinate(wild)]];
+    }
+    let apart = sides.next(random, Reach::Points);
+    points_apart(random, apart)
+}
+
+// Such points, far enough apart to be centres.
+fn chosen_points(random: &mut Random) -> [[f64; 2]; 2] {
+    loop {
+        let apart = sides::one(random, Reach::Points);
+        if hypot::hypot(apart[0], apart[1]) > 4e-6 {
+            return points_apart(random, apart);
+        }
+    }
+}
+
+fn points_apart(random: &mut Random, apart: [f64; 2]) -> [[f64; 2]; 2] {
+    let half = apart.map(|v| v / 2.0);
+    match random.below(4) {
+        0 | 1 if !bad_point(apart) => [apart, [0.0; 2]],
+        2 if !bad_point(apart) => [[-0.0; 2], apart],
+        _ => [half, half.map(|v| -v)],
+    }
+}
+
+// Two points; the refusal, the distance.
+fn distance_record(p: [f64; 2], q: [f64; 2], record: &mut Record) {
     for x in [p[0], p[1], q[0], q[1]] {
         record.float(x);
     }
@@ -341,14 +402,32 @@ fn distance_record(random: &mut Random, record: &mut Record) {
     record.result(if refused { 0.0 } else { Point::new(p[0], p[1]).distance(&Point::new(q[0], q[1])) });
 }
 
+// Two circles of chosen differences, which touch or nearly do.
+fn touching_pair(random: &mut Random) -> [[f64; 3]; 2] {
+    let [p, q] = chosen_points(random);
+    let about = random.about([p[0] - q[0], p[1] - q[1]]);
+    let part = random.pick(&[0.5, 0.5, 0.25, 1.0, 2.0]);
+    let radii = match random.below(3) {
+        0 => [about * part, about - about * part],
+        1 => [about + part, part],
+        _ => [about * part, about * part + about],
+    };
+    [[p[0], p[1], radii[0]], [q[0], q[1], radii[1]]]
+}
+
 fn pair_record(random: &mut Random, record: &mut Record) {
     let wild = random.pick(&[0, 6, 24]);
     let a = random.circle(wild);
-    let b = random.beside(a, wild);
+    let [a, b] = if random.below(3) == 0 { touching_pair(random) } else { [a, random.beside(a, wild)] };
     // two circles are no list: equal inks are no cause
     let ink = random.ink();
-    record.circle(a, ink);
-    record.circle(b, if random.below(2) == 0 { ink } else { random.ink() });
+    pair_of([a, b], [ink, if random.below(2) == 0 { ink } else { random.ink() }], record);
+}
+
+// Two circles; the refusal, the distance, whether the first contains the second, whether they intersect.
+fn pair_of([a, b]: [[f64; 3]; 2], inks: [u16; 2], record: &mut Record) {
+    record.circle(a, inks[0]);
+    record.circle(b, inks[1]);
     let refusal = circles_refusal(&[a, b]);
     record.byte(refusal);
     let (ca, cb) = (circle(a), circle(b));
@@ -359,14 +438,24 @@ fn pair_record(random: &mut Random, record: &mut Record) {
 
 fn point_record(random: &mut Random, record: &mut Record) {
     let wild = random.pick(&[0, 6, 24]);
-    let c = random.circle(wild);
-    let p = match random.below(4) {
+    let mut c = random.circle(wild);
+    let p = match random.below(6) {
         0 => [c[0] + c[2], c[1]],
         1 => [c[0], above(c[1] + c[2])],
         2 => [c[0], c[1]],
+        3 | 4 => {
+            let [p, q] = chosen_points(random);
+            c = [q[0], q[1], random.about([p[0] - q[0], p[1] - q[1]])];
+            p
+        }
         _ => [random.coordinate(wild), random.coordinate(wild)],
     };
-    record.circle(c, random.ink());
+    point_of(c, random.ink(), p, record);
+}
+
+// A circle, a point; the refusal, whether the circle contains the point.
+fn point_of(c: [f64; 3], ink: u16, p: [f64; 2], record: &mut Record) {
+    record.circle(c, ink);
     for x in p {
         record.float(x);
     }
@@ -379,9 +468,12 @@ fn some_circles(random: &mut Random, small: bool) -> Vec<[f64; 3]> {
     let few = small && random.below(16) > 0;
     let n = if few { random.pick(&[0, 1, 2, 2, 3, 3, 4, 5, 8]) } else { random.pick(&[0, 1, 2, 2, 3, 3, 4, 5, 8, 13, 30, 63, 64, 65, 70]) };
     let wild = random.pick(&[0, 0, 0, 40, 400]);
+    let touching = random.below(4) == 0;
     let mut circles: Vec<[f64; 3]> = Vec::new();
     for i in 0..n {
-        let c = if i > 0 && random.below(3) > 0 {
+        let c = if i > 0 && touching {
+            random.nearly_touching(circles[i as usize - 1])
+        } else if i > 0 && random.below(3) > 0 {
             let other = circles[random.below(i) as usize];
             random.beside(other, wild)
         } else {
@@ -395,16 +487,30 @@ fn some_circles(random: &mut Random, small: bool) -> Vec<[f64; 3]> {
 fn circles_record(random: &mut Random, record: &mut Record, small: bool) {
     let circles = some_circles(random, small);
     let inks = random.inks(circles.len());
+    clusters_of(&circles, &inks, record);
+}
+
+// How many circles, the circles; the refusal, the clusters.
+fn clusters_of(circles: &[[f64; 3]], inks: &[u16], record: &mut Record) {
     record.byte(circles.len());
-    for (c, ink) in circles.iter().zip(&inks) {
+    for (c, ink) in circles.iter().zip(inks) {
         record.circle(*c, *ink);
     }
-    let refusal = match circles_refusal(&circles) {
-        0 if same_ink(&inks) => 14,
+    let refusal = match circles_refusal(circles) {
+        0 if same_ink(inks) => 14,
         number => number,
     };
     let shapes: Vec<Circle> = circles.iter().map(|c| circle(*c)).collect();
     grouped(record, refusal, &if refusal == 0 { find_clusters(&shapes) } else { vec![] });
+}
+
+// Of kinds 2, 3 and 4, in which distances decide.
+fn decided_record(kind: u64, random: &mut Random, record: &mut Record, small: bool) {
+    match kind {
+        2 => pair_record(random, record),
+        3 => point_record(random, record),
+        _ => circles_record(random, record, small),
+    }
 }
 
 fn areas_record(random: &mut Random, record: &mut Record, small: bool) {
@@ -663,6 +769,15 @@ fn card_record(file: &[u8], record: &mut Record) -> card::Outcome {
     outcome
 }
 
+// Two sides; the hypot. It never gives -0, so a zero's sign counts here.
+fn hypot_record(sides: sides::Pair, record: &mut Record) {
+    for x in sides {
+        record.float(x);
+    }
+    let root = hypot::hypot(sides[0], sides[1]);
+    record.word(if root.is_nan() { NAN } else { root.to_bits() });
+}
+
 // The length of the file, the place, the file; the refusal, the tag, the factor, the circle, the mask and the area, where the body starts and how long it is.
 fn field_record(file: &[u8], at: usize, record: &mut Record) {
     let (mut refusal, mut tag, mut factor, mut circle, mut ink, mut region, mut start, mut length) = (0, 0, 0.0, [0.0; 3], 0, (0, 0.0), 0, 0);
@@ -701,18 +816,34 @@ fn proportion(words: &[String], i: usize) -> f64 {
 fn write_random(words: &[String], out: &mut impl Write) {
     let (kind, count, seed) = (number(words, 0), number(words, 1), number(words, 2));
     let asked = |option: &str| words[3..].iter().any(|w| w == option);
+    let stats = asked("stats");
     let mut random = Random(seed.wrapping_mul(0x1000_0000_01b3) ^ kind);
     let mut tally = cards::Tally::default();
     let mut layouts_tally = layouts::Tally::default();
     let mut charges_tally = charges::Tally::default();
+    let mut sides = Sides::default();
+    let mut sides_tally = sides::Tally::default();
     let mut places = fields::Places::default();
+    let mut changed = 0;
     for _ in 0..count {
         let mut record = Record::default();
         match kind {
-            1 => distance_record(&mut random, &mut record),
-            2 => pair_record(&mut random, &mut record),
-            3 => point_record(&mut random, &mut record),
-            4 => circles_record(&mut random, &mut record, asked("small")),
+            1 => {
+                let [p, q] = points(&mut random, &mut sides);
+                if stats {
+                    sides_tally.count([p[0] - q[0], p[1] - q[1]]);
+                }
+                distance_record(p, q, &mut record);
+            }
+            2..=4 => {
+                let again = &mut Random(random.0);
+                decided_record(kind, &mut random, &mut record, asked("small"));
+                if stats {
+                    let mut before = Record::default();
+                    hypot::by_rounded_squares(|| decided_record(kind, again, &mut before, asked("small")));
+                    changed += (before.0 != record.0) as usize;
+                }
+            }
             5 => areas_record(&mut random, &mut record, asked("small")),
             6 => boxes_record(&mut random, &mut record),
             7 => {
@@ -725,7 +856,15 @@ fn write_random(words: &[String], out: &mut impl Write) {
                 pack_record(&mut random, n, proportion, &mut record);
             }
             9 => container_record(&mut random, &mut record, asked("small")),
-            10 => tally.count(&card_record(&cards::file(&mut random, asked("small")), &mut record)),
+            10 => {
+                let file = cards::file(&mut random, asked("small"));
+                tally.count(&card_record(&file, &mut record));
+                if stats {
+                    let mut before = Record::default();
+                    hypot::by_rounded_squares(|| card_record(&file, &mut before));
+                    changed += (before.0 != record.0) as usize;
+                }
+            }
             11 => {
                 let given = layouts::lists(&mut random, asked("small"));
                 let proportion = random.proportion(given.circles.len() as u64);
@@ -738,6 +877,13 @@ fn write_random(words: &[String], out: &mut impl Write) {
                 charges_tally.count(cents, &charge_record(&given, proportion, cents, &mut record));
             }
             13 => {
+                let pair = sides.next(&mut random, Reach::Any);
+                if stats {
+                    sides_tally.count(pair);
+                }
+                hypot_record(pair, &mut record);
+            }
+            14 => {
                 let at = places.next(&mut random, asked("small"));
                 field_record(&places.file, at, &mut record);
             }
@@ -745,14 +891,20 @@ fn write_random(words: &[String], out: &mut impl Write) {
         }
         record.write(kind as u8, out);
     }
-    if asked("stats") && kind == 10 {
+    if stats && kind == 10 {
         tally.print();
     }
-    if asked("stats") && kind == 11 {
+    if stats && ((2..=4).contains(&kind) || kind == 10) {
+        eprintln!("another answer by the root of rounded squares {changed}");
+    }
+    if stats && kind == 11 {
         layouts_tally.print();
     }
-    if asked("stats") && kind == 12 {
+    if stats && kind == 12 {
         charges_tally.print();
+    }
+    if stats && (kind == 1 || kind == 13) {
+        sides_tally.print();
     }
 }
 
@@ -815,6 +967,52 @@ fn write_charges(out: &mut impl Write) {
     }
 }
 
+// Circles of few digits that fall otherwise than by the root of rounded squares. Above each pair stands what it was by that.
+const NEAR_TANGENT: [[[f64; 3]; 2]; 7] = [
+    // crossing, and one cluster
+    [[0.0, 0.0, 2.0], [3.5, 1.2, 1.7]],
+    // apart, and two clusters
+    [[0.0, 0.0, 0.15], [0.21, 0.2, 0.14]],
+    // the first contains the second, and they do not cross
+    [[0.0, 0.0, 3.8], [3.5, 1.2, 0.1]],
+    // the first does not contain the second, and they cross
+    [[0.0, 0.0, 0.3], [0.21, 0.2, 0.01]],
+    // the second centre is not in the first circle
+    [[0.0, 0.0, 0.29], [0.21, 0.2, 1.0]],
+    // it is
+    [[0.0, 0.0, 0.35], [0.28, 0.21, 1.0]],
+    // one centre, so they do not cross
+    [[0.0, 0.0, 1.0], [1e-200, 0.0, 1.0]],
+];
+
+fn write_near_tangent(out: &mut impl Write) {
+    for circles in NEAR_TANGENT {
+        let [one, other] = circles;
+        let center = [other[0], other[1]];
+        let records = || {
+            let mut records: [Record; 4] = Default::default();
+            distance_record([one[0], one[1]], center, &mut records[0]);
+            pair_of(circles, [1, 2], &mut records[1]);
+            point_of(one, 1, center, &mut records[2]);
+            clusters_of(&circles, &[1, 2], &mut records[3]);
+            records
+        };
+        let (now, before) = (records(), hypot::by_rounded_squares(records));
+        assert!((1..4).any(|i| now[i].0 != before[i].0), "{circles:?} fall as before");
+        for (kind, record) in (1..).zip(now) {
+            record.write(kind, out);
+        }
+    }
+}
+
+fn write_hypots(seed: u64, out: &mut impl Write) {
+    for pair in sides::stored(&mut Random(seed)) {
+        let mut record = Record::default();
+        hypot_record(pair, &mut record);
+        record.write(13, out);
+    }
+}
+
 fn main() {
     let words: Vec<String> = std::env::args().skip(1).collect();
     let stdout = std::io::stdout();
@@ -835,6 +1033,8 @@ fn main() {
         Some("at") => write_at(&words[1..], &mut out),
         Some("columns") => write_columns(proportion(&words, 1), &mut out),
         Some("charges") => write_charges(&mut out),
+        Some("near-tangent") => write_near_tangent(&mut out),
+        Some("hypots") => write_hypots(number(&words, 1), &mut out),
         _ => write_random(&words, &mut out),
     }
 }

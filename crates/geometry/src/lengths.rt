@@ -7,6 +7,7 @@ ghost use Rattle.scope.specs.Numbers.{_+ᶠ_, _-ᶠ_, _<ᶠ_, _≤ᶠ_, abs};
 ghost use Rattle.scope.specs.Offset.{magnitude};
 ghost use Rattle.geometry.specs.Lengths.{DistanceBy};
 use root::answers::Root;
+use root::hypot::hypot;
 
 // The size of a number, its sign taken off.
 pub fn absolute(x: f64) -> f64
@@ -42,7 +43,7 @@ pub fn magnitude(x: f64, y: f64) -> f64
 pub fn apart(x: f64, y: f64) -> f64
     ensures { λ r. ⌜ DistanceBy x y r ⌝ }
 {
-    magnitude(x, y)
+    hypot(x, y)
 }
 
 // Of circles whose centres are d apart: whether one lies inside the other. One that touches the edge from inside does.

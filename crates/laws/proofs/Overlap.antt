@@ -2,18 +2,16 @@
 use mathlib.Core.Path.{_≡_, ap, ap₂, _∙_}
 use mathlib.Core.Bool.{Bool, _&&_, _||_, or-comm}
 use lib.Ieee.{Float, binary64, add, sub, lt}
-use Rattle.rounding.specs.Root.{root}
 use Rattle.shapes.specs.declared.point.Point.{Point}
 use Rattle.shapes.specs.declared.circle.Circle.{Circle}
 use Rattle.scope.specs.Numbers.{abs}
 use Rattle.scope.specs.Distance.{distance, contains, intersects}
 use Rattle.scope.specs.Links.{overlap}
-use Rattle.laws.proofs.Swapped.{add-swapped, difference-swapped, square-swapped}
+use Rattle.laws.proofs.Swapped.{add-swapped, difference-swapped, hypot-of-same-sizes}
 
 pub distance-swapped : (p q : Point) → distance p q ≡ distance q p
 unfolding distance
-distance-swapped p q =
-    ap₂ (λ (u v : Float). root binary64 (add binary64 u v)) (square-swapped binary64 (p .x) (q .x)) (square-swapped binary64 (p .y) (q .y))
+distance-swapped p q = hypot-of-same-sizes binary64 _ _ _ _ (difference-swapped binary64 (p .x) (q .x)) (difference-swapped binary64 (p .y) (q .y))
 
 pub intersects-swapped : (a b : Circle) → intersects a b ≡ intersects b a
 unfolding intersects

@@ -1,13 +1,15 @@
--- For every f64 a sum does not depend on the order of its terms, and a difference turned round has the same size and so the same square.
+-- For every f64 a sum does not depend on the order of its terms, a difference turned round has the same size, and hypot depends on sizes alone.
 use Prim.Native.Nat.{ℕ, zero, suc, _+_, _-_, _*_, _^_}
 use native.Mathlib.Omega.{arith}
 use native.Mathlib.Nat.{mul-comm, add-comm}
 use native.Mathlib.Decide.{decLt}
-use mathlib.Core.Path.{_≡_, refl, sym, ap, _∙_}
+use mathlib.Core.Path.{_≡_, refl, sym, ap, ap₂, _∙_}
 use mathlib.Core.Bool.{Bool, true, false, not, cond, Bool·not-not}
 use lib.Dec.{ltb}
-use lib.Ieee.{Float, nan, inf, fin, Format, neg, add, sub, mul, sum, round, units, odd, up, down, low, prec, emax}
+use lib.Ieee.{Float, nan, inf, fin, Format, neg, add, sub, sum, round, units, odd, up, down, low, prec, emax}
 use borrow.Author.Tests.{lt-ltb, le-ltb}
+use Rattle.rounding.specs.Root.{hypot}
+use Rattle.rounding.proofs.root.Hypot.{special-hypots, hypot-swapped, hypot-negated}
 use Rattle.scope.specs.Numbers.{abs}
 
 -- ---- sums
@@ -97,13 +99,17 @@ pub difference-swapped : (f : Format) (x y : Float) → abs (sub f x y) ≡ abs 
 unfolding sub
 difference-swapped f x y = abs-add f x (neg y) ∙ ap (λ (z : Float). abs (add f (neg x) z)) (neg-neg y) ∙ ap abs (add-swapped f (neg x) y)
 
-square-of-size : (f : Format) (x : Float) → mul f x x ≡ mul f (abs x) (abs x)
-unfolding mul abs
-square-of-size f nan = refl
-square-of-size f (inf true) = refl
-square-of-size f (inf false) = refl
-square-of-size f (fin true m e) = refl
-square-of-size f (fin false m e) = refl
+-- ---- hypot takes only the sizes
 
-pub square-swapped : (f : Format) (x y : Float) → mul f (sub f x y) (sub f x y) ≡ mul f (sub f y x) (sub f y x)
-square-swapped f x y = square-of-size f (sub f x y) ∙ ap (λ (z : Float). mul f z z) (difference-swapped f x y) ∙ sym (square-of-size f (sub f y x))
+size-first : (f : Format) (x y : Float) → hypot f x y ≡ hypot f (abs x) y
+unfolding abs neg
+size-first f nan y = refl
+size-first f (inf s) y = special-hypots f .infinity-first s y ∙ sym (special-hypots f .infinity-first false y)
+size-first f (fin true m e) y = sym (hypot-negated f (fin true m e) y)
+size-first f (fin false m e) y = refl
+
+hypot-of-sizes : (f : Format) (x y : Float) → hypot f x y ≡ hypot f (abs x) (abs y)
+hypot-of-sizes f x y = size-first f x y ∙ hypot-swapped f (abs x) y ∙ size-first f y (abs x) ∙ hypot-swapped f (abs y) (abs x)
+
+pub hypot-of-same-sizes : (f : Format) (x y z w : Float) → abs x ≡ abs z → abs y ≡ abs w → hypot f x y ≡ hypot f z w
+hypot-of-same-sizes f x y z w h k = hypot-of-sizes f x y ∙ ap₂ (hypot f) h k ∙ sym (hypot-of-sizes f z w)

@@ -5,6 +5,7 @@ mod cards;
 mod charges;
 mod circles;
 mod groups;
+mod hypots;
 mod layouts;
 mod places;
 mod read;
@@ -13,14 +14,14 @@ use libc::STDIN_FILENO;
 use libc::STDOUT_FILENO;
 ghost use Prim.Native.Nat.{_<_};
 
-const KINDS: usize = 12;
+const KINDS: usize = 13;
 
 // More records than any list has.
 const BUDGET: u64 = 100000000;
 
 struct Tally {
-    seen: [u64; 13],
-    agreed: [u64; 13],
+    seen: [u64; 14],
+    agreed: [u64; 14],
 }
 
 // What one record came to: the end, or its kind, plus 100 where it agrees.
@@ -42,6 +43,7 @@ fn main() {
     line(b"whole cards ", tally.agreed[10], tally.seen[10]);
     line(b"whole layouts ", tally.agreed[11], tally.seen[11]);
     line(b"charges ", tally.agreed[12], tally.seen[12]);
+    line(b"hypot ", tally.agreed[13], tally.seen[13]);
     line(b"malformed ", tally.agreed[0], tally.seen[0]);
 }
 
@@ -55,8 +57,8 @@ fn line(name: &[u8], agreed: u64, seen: u64) {
 
 // A record of no known kind, or one that is cut, counts as one of kind 0.
 fn all() -> Tally {
-    let mut seen = [0u64; 13];
-    let mut agreed = [0u64; 13];
+    let mut seen = [0u64; 14];
+    let mut agreed = [0u64; 14];
     let mut turn: u64 = 0;
     while turn < BUDGET {
         let outcome = next();
@@ -64,7 +66,7 @@ fn all() -> Tally {
             return Tally { seen, agreed };
         }
         let kind = outcome % AGREES;
-        if kind < 13 {
+        if kind < 14 {
             seen[kind] = more(seen[kind]);
             if outcome >= AGREES {
                 agreed[kind] = more(agreed[kind]);
@@ -144,6 +146,7 @@ fn agrees(kind: usize, body: &[u8]) -> bool {
         10 => cards::card_agrees(body),
         11 => layouts::layout_agrees(body),
         12 => charges::charge_agrees(body),
+        13 => hypots::hypot_agrees(body),
         _ => false,
     }
 }

@@ -1,6 +1,13 @@
 pub mod Callers
 pub mod WholeLaws
+pub mod SquareLaws
+pub mod TieLaws
 pub mod ScaleLaws
 pub mod PatternLaws
+pub mod HalfWayLaws
 pub mod NearestLaws
+pub mod JoinedLaws
+pub mod SubnormalLaws
+pub mod PairLaws
+pub mod OperandLaws
 pub mod AnswerLaws

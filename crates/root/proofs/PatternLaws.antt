@@ -1,34 +1,26 @@
 -- The value of a bit pattern by its two fields, and the value of a pattern put together as a sum of a field and digits, with a carry or without.
-use mathlib.Core.Path.{_≡_, refl, sym, ap, _∙_, subst, subst₂}
+use mathlib.Core.Path.{_≡_, refl, sym, subst, subst₂}
 use mathlib.Core.Logic.{inl, inr}
 use mathlib.Core.Bool.{Bool, true, false, not, cond}
 use Prim.Native.Nat.{ℕ, suc, _+_, _-_, _*_, _/_, _%_, _^_, _≤_, _<_}
-use native.Mathlib.Nat.{mul-one, mod-eq-of-lt, eq-or-lt-of-le, pow-succ'}
+use native.Mathlib.Nat.{mul-one, mod-eq-of-lt}
 use native.Mathlib.Omega.{arith}
-use lib.Dec.{T, leb, eqb, eqb→eq, lit<}
-use lib.Arith.{lt→nleb}
+use lib.Dec.{T, leb, eqb, eqb→eq}
+use lib.Arith.{lt→nleb, le→nltb}
 use lib.Pow as pow
-use lib.Ieee.{Float, nan, inf, fin, binary64, odd, ofFields, ofBits, isNan, nanBits}
-use lib.Ieee.Bits.{is-false, nanBits-is}
+use lib.Ieee.{Float, nan, inf, fin, binary64, odd, ofFields, ofBits, nanBits, fits}
+use lib.Ieee.Bits.{is-false, nanBits-above}
 use lib.Ieee.Exact.{HasValue, odd-sign}
 use Rattle.algebra.proofs.Size.{either}
+use Rattle.rounding.specs.Value.{Fin}
+use Rattle.rounding.proofs.Value.{fin-both}
 use Rattle.root.specs.Parts.{infinity, patternUnits}
-use Rattle.root.proofs.ScaleLaws.{units-subnormal, units-normal}
+use Rattle.root.proofs.ScaleLaws.{units-subnormal, units-normal, units-joined}
 
 -- ---- the fields of a pattern
 pub pattern-fields : (b : ℕ) → ofBits binary64 b ≡ ofFields binary64 (leb (2 ^ 63) b) (b % 2 ^ 63 / 2 ^ 52) (b % 2 ^ 52)
 unfolding ofBits
 pattern-fields b = refl
-
-unsigned-fields : (x t : ℕ) → x < 2048 → t < 2 ^ 52 → ofBits binary64 (x * 2 ^ 52 + t) ≡ ofFields binary64 false x t
-unsigned-fields x t X H =
-    let b = x * 2 ^ 52 + t in
-    let l : b < 2 ^ 63 = omega arith in
-    pattern-fields b
-    ∙ ap (λ (s : Bool). ofFields binary64 s (b % 2 ^ 63 / 2 ^ 52) (b % 2 ^ 52)) (is-false (leb (2 ^ 63) b) (lt→nleb (2 ^ 63) b l))
-    ∙ ap (λ (z : ℕ). ofFields binary64 false (z / 2 ^ 52) (b % 2 ^ 52)) (mod-eq-of-lt l)
-    ∙ ap (λ (z : ℕ). ofFields binary64 false z (b % 2 ^ 52)) (pow.high x 52 H)
-    ∙ ap (λ (z : ℕ). ofFields binary64 false x z) (pow.low x 52 H)
 
 -- ---- their value
 pub subnormal-field : (s : Bool) (t : ℕ) → HasValue (ofFields binary64 s 0 t) s t (2 ^ 1074)
@@ -43,48 +35,35 @@ normal-field s x t h = pick (eqb (suc x) 2047) (eqb→eq (suc x) 2047)
     pick true e = let y = e tt in absurd (omega arith)
     pick false e = odd-sign 53 s (2 ^ 52 + t) x 1074
 
-subnormal-value : (b : ℕ) → b < 2 ^ 52 → HasValue (ofBits binary64 b) false b (2 ^ 1074)
-subnormal-value b h = subst (λ (z : ℕ). HasValue (ofBits binary64 z) false b (2 ^ 1074)) (no-field b) (rw (unsigned-fields 0 b (lit< tt) h) (subnormal-field false b))
-  where
-    no-field : (b : ℕ) → 0 * 2 ^ 52 + b ≡ b
-    no-field b = omega arith
+-- by the pattern u without its sign
+fields-value : (s : Bool) (u : ℕ) → u < infinity → HasValue (ofFields binary64 s (u / 2 ^ 52) (u % 2 ^ 52)) s (patternUnits u) (2 ^ 1074)
+fields-value s u h = elim (either u (2 ^ 52)) [
+  | inl l ↦ let f : u / 2 ^ 52 ≡ 0 = omega arith in let t : u % 2 ^ 52 ≡ u = omega arith in rw (units-subnormal u l, f, t) (subnormal-field s u)
+  | inr l ↦
+      let x = u / 2 ^ 52 - 1 in
+      let f : suc x ≡ u / 2 ^ 52 = omega arith in
+      rw (units-normal u l) (subst (λ (y : ℕ). HasValue (ofFields binary64 s y (u % 2 ^ 52)) s ((2 ^ 52 + u % 2 ^ 52) * 2 ^ x) (2 ^ 1074)) f (normal-field s x (u % 2 ^ 52) (omega arith)))
+]
 
-normal-value : (x t : ℕ) → suc x < 2047 → t < 2 ^ 52 → HasValue (ofBits binary64 (suc x * 2 ^ 52 + t)) false ((2 ^ 52 + t) * 2 ^ x) (2 ^ 1074)
-normal-value x t X H = rw (unsigned-fields (suc x) t (omega arith) H) (normal-field false x t X)
+pub signed-value : (b : ℕ) → b % 2 ^ 63 < infinity → HasValue (ofBits binary64 b) (leb (2 ^ 63) b) (patternUnits (b % 2 ^ 63)) (2 ^ 1074)
+signed-value b h = let t : b % 2 ^ 52 ≡ b % 2 ^ 63 % 2 ^ 52 = omega arith in rw (pattern-fields b, t) (fields-value (leb (2 ^ 63) b) (b % 2 ^ 63) h)
 
 pub pattern-value : (b : ℕ) → b < infinity → HasValue (ofBits binary64 b) false (patternUnits b) (2 ^ 1074)
-pattern-value b h = elim (either b (2 ^ 52)) [
-  | inl l ↦ rw (units-subnormal b l) (subnormal-value b l)
-  | inr l ↦
-      let x = b / 2 ^ 52 - 1 in
-      let t = b % 2 ^ 52 in
-      let e : suc x * 2 ^ 52 + t ≡ b = omega arith in
-      rw (units-normal b l) (subst (λ (z : ℕ). HasValue (ofBits binary64 z) false ((2 ^ 52 + t) * 2 ^ x) (2 ^ 1074)) e (normal-value x t (omega arith) (omega arith)))
-]
+pattern-value b h =
+    let l : b < 2 ^ 63 = omega arith in
+    let e : b % 2 ^ 63 ≡ b = mod-eq-of-lt l in
+    subst₂ (λ (s : Bool) (u : ℕ). HasValue (ofBits binary64 b) s (patternUnits u) (2 ^ 1074)) (is-false (leb (2 ^ 63) b) (lt→nleb (2 ^ 63) b l)) e (signed-value b (rw e h))
 
--- ---- a pattern put together: s has its leading digit at place 52, or is 2 ^ 53 and carries into the exponent
-pub joined-value : (h s : ℕ) → h < 2000 → 2 ^ 52 ≤ s → s ≤ 2 ^ 53 → HasValue (ofBits binary64 ((h + 1) * 2 ^ 52 + s)) false (s * 2 ^ suc h) (2 ^ 1074)
-joined-value h s H lo hi = elim (eq-or-lt-of-le hi) [
-  | inl e ↦
-      let a : suc (suc (suc h)) * 2 ^ 52 + 0 ≡ (h + 1) * 2 ^ 52 + s = omega arith in
-      let v : (2 ^ 52 + 0) * 2 ^ suc (suc h) ≡ s * 2 ^ suc h = omega (arith, pow-succ' 2 (suc h), ap (λ (z : ℕ). z * 2 ^ suc h) e) in
-      subst₂ (λ (y z : ℕ). HasValue (ofBits binary64 y) false z (2 ^ 1074)) a v (normal-value (suc (suc h)) 0 (omega arith) (lit< tt))
-  | inr l ↦
-      let t = s - 2 ^ 52 in
-      let a : suc (suc h) * 2 ^ 52 + t ≡ (h + 1) * 2 ^ 52 + s = omega arith in
-      let v : (2 ^ 52 + t) * 2 ^ suc h ≡ s * 2 ^ suc h = ap (λ (z : ℕ). z * 2 ^ suc h) (whole s lo) in
-      subst₂ (λ (y z : ℕ). HasValue (ofBits binary64 y) false z (2 ^ 1074)) a v (normal-value (suc h) t (omega arith) (omega arith))
-]
-  where
-    whole : (s : ℕ) → 2 ^ 52 ≤ s → 2 ^ 52 + (s - 2 ^ 52) ≡ s
-    whole s h = omega arith
+-- ---- a pattern put together
+pub joined-value : (i s : ℕ) → s ≤ 2 ^ 53 → (0 < i → 2 ^ 52 ≤ s) → i * 2 ^ 52 + s < infinity → HasValue (ofBits binary64 (i * 2 ^ 52 + s)) false (s * 2 ^ i) (2 ^ 1074)
+joined-value i s hi lo h = subst (λ (u : ℕ). HasValue (ofBits binary64 (i * 2 ^ 52 + s)) false u (2 ^ 1074)) (units-joined i s hi lo) (pattern-value (i * 2 ^ 52 + s) h)
 
--- ---- a pattern that has a value is no NaN
-has-value-number : (x : Float) (s : Bool) (a c : ℕ) → HasValue x s a c → T (not (isNan x))
-unfolding isNan
-has-value-number nan s a c v = absurd v
-has-value-number (inf t) s a c v = absurd v
-has-value-number (fin t m e) s a c v = tt
+-- ---- a pattern up to that of infinity is no NaN
+pub no-nan-up-to-infinity : (r : ℕ) → r ≤ infinity → T (not (nanBits binary64 r))
+no-nan-up-to-infinity r h = subst (λ (z : Bool). T (not z)) (sym (nanBits-above binary64 r)) (le→nltb infinity (r % 2 ^ 63) (omega arith))
 
-pub has-value-no-nan : (b : ℕ) (s : Bool) (a c : ℕ) → HasValue (ofBits binary64 b) s a c → T (not (nanBits binary64 b))
-has-value-no-nan b s a c h = subst (λ (t : Bool). T (not t)) (sym (nanBits-is binary64 b)) (has-value-number (ofBits binary64 b) s a c h)
+-- ---- what has a value is finite
+pub has-value-fin : (x : Float) (s : Bool) (a c : ℕ) → HasValue x s a c → T (fits binary64 x) → Fin binary64 x
+has-value-fin nan s a c h f = absurd h
+has-value-fin (inf t) s a c h f = absurd h
+has-value-fin (fin t m e) s a c h f = fin-both binary64 (fin t m e) tt f

@@ -1,14 +1,14 @@
 -- The arithmetic of a pattern's parts: the leading digit brought to place 52, and the exponent made even, with the value kept.
 use mathlib.Core.Path.{_≡_, refl, sym, ap, _∙_}
 use Prim.Native.Nat.{ℕ, zero, suc, _+_, _-_, _*_, _/_, _%_, _^_, _≤_, _<_}
-use native.Mathlib.Nat.{mul-assoc, pow-succ', mul-pos}
+use native.Mathlib.Nat.{mul-assoc, mul-one, eq-or-lt-of-le, pow-succ', mul-pos}
 use native.Mathlib.Omega.{arith}
 use mathlib.Core.Logic.{inl, inr}
 use mathlib.Core.Bool.{Bool, true, false, not, cond}
 use lib.Dec.{T, ltb, ltb→lt, nltb→le}
 use lib.Pow.{pow-add, pow-pos}
 use Rattle.algebra.proofs.Size.{either}
-use Rattle.root.specs.Parts.{infinity, patternUnits, one, IsNormal, IsSplit}
+use Rattle.root.specs.Parts.{infinity, patternUnits, one, IsUnits, IsNormal, IsSplit}
 
 -- ---- the value of a pattern, by its exponent field
 pub units-subnormal : (b : ℕ) → b < 2 ^ 52 → patternUnits b ≡ b
@@ -27,11 +27,40 @@ units-normal b h = pick (ltb b (2 ^ 52)) (ltb→lt b (2 ^ 52))
     pick true n = let l = n tt in absurd (omega arith)
     pick false n = refl
 
+pub subnormal-is-units : (b : ℕ) → b < 2 ^ 52 → IsUnits b b 0
+subnormal-is-units b h = record { value = mul-one b ∙ sym (units-subnormal b h); exponent = omega arith; joined = omega arith; small = omega arith }
+
+pub normal-is-units : (b : ℕ) → 2 ^ 52 ≤ b → IsUnits b (2 ^ 52 + b % 2 ^ 52) (b / 2 ^ 52 - 1)
+normal-is-units b h = record { value = sym (units-normal b h); exponent = refl; joined = omega arith; small = omega arith }
+
 pub units-pos : (b : ℕ) → 0 < b → 0 < patternUnits b
 units-pos b h = elim (either b (2 ^ 52)) [
   | inl l ↦ rw (units-subnormal b l) h
   | inr l ↦ rw (units-normal b l) (mul-pos (omega arith) (pow-pos (b / 2 ^ 52 - 1)))
 ]
+
+from-leading : (i s : ℕ) → 2 ^ 52 ≤ s → s ≤ 2 ^ 53 → patternUnits (i * 2 ^ 52 + s) ≡ s * 2 ^ i
+from-leading i s lo hi = units-normal (i * 2 ^ 52 + s) (omega arith) ∙ elim (eq-or-lt-of-le hi) [
+  | inl e ↦
+      let d : (i * 2 ^ 52 + s) % 2 ^ 52 ≡ 0 = omega arith in
+      let x : (i * 2 ^ 52 + s) / 2 ^ 52 - 1 ≡ suc i = omega arith in
+      rw (d, x) (omega (arith, pow-succ' 2 i, ap (λ (y : ℕ). y * 2 ^ i) e))
+  | inr l ↦
+      let d : 2 ^ 52 + (i * 2 ^ 52 + s) % 2 ^ 52 ≡ s = omega arith in
+      let x : (i * 2 ^ 52 + s) / 2 ^ 52 - 1 ≡ i = omega arith in
+      rw (d, x)
+]
+
+-- the pattern of s * 2 ^ i units: s has its leading digit at place 52, or is 2 ^ 53 and carries into the exponent, or i is 0
+pub units-joined : (i s : ℕ) → s ≤ 2 ^ 53 → (0 < i → 2 ^ 52 ≤ s) → patternUnits (i * 2 ^ 52 + s) ≡ s * 2 ^ i
+units-joined zero s hi lo = elim (either s (2 ^ 52)) [
+  | inl l ↦ rw (plain s) (units-subnormal s l ∙ sym (mul-one s))
+  | inr l ↦ from-leading 0 s l hi
+]
+  where
+    plain : (s : ℕ) → 0 * 2 ^ 52 + s ≡ s
+    plain s = omega arith
+units-joined (suc i) s hi lo = from-leading (suc i) s (lo (omega arith)) hi
 
 -- ---- below the smallest normal number: the digits are doubled until there are 53
 pub record Doubled (b m k : ℕ) : Type 0 where

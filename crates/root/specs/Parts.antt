@@ -12,6 +12,13 @@ infinity = 2047 * 2 ^ 52
 unfoldable pub patternUnits : ℕ → ℕ
 patternUnits b = cond (ltb b (2 ^ 52)) b ((2 ^ 52 + b % 2 ^ 52) * 2 ^ (b / 2 ^ 52 - 1))
 
+-- m * 2 ^ k is the value of b, with k and m as the pattern has them
+pub record IsUnits (b m k : ℕ) : Type 0 where
+  pub value : m * 2 ^ k ≡ patternUnits b
+  pub exponent : k ≡ b / 2 ^ 52 - 1
+  pub joined : k * 2 ^ 52 + m ≡ b
+  pub small : m < 2 ^ 53
+
 -- 1 as a multiple of 2 ^ -1074
 unfoldable pub one : ℕ
 one = 2 ^ 1074

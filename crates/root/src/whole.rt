@@ -3,7 +3,7 @@ ghost use Prim.Native.Nat.{_+_, _*_, _^_, _≤_, _<_};
 ghost use Rattle.root.specs.Parts.{IsWholeRoot};
 
 // 2^27: half of the 54 digits.
-const HALF: u64 = 134217728;
+pub const HALF: u64 = 134217728;
 // 2^32: the digits that a first estimate does not need.
 const LOWER: u64 = 4294967296;
 
@@ -12,13 +12,13 @@ pub struct WholeRoot {
     pub left: u64,
 }
 
-// The root of m * 2^54, which has 54 digits: first the 27 digits of m's own root, then 27 more.
-pub fn root_54(m: u64) -> WholeRoot
-    requires { ⌜ (2 ^ 52 ≤ m) × (m < 2 ^ 54) ⌝ }
-    ensures { λ r. ⌜ IsWholeRoot (m * 2 ^ 54) (r .root) (r .left) ⌝ }
+// The root of hi * 2^54 + lo, which has 54 digits: first the 27 digits of hi's own root, then 27 more.
+pub fn root(hi: u64, lo: u64) -> WholeRoot
+    requires { ⌜ (2 ^ 52 ≤ hi) × (hi < 2 ^ 54) × (lo < 2 ^ 54) ⌝ }
+    ensures { λ r. ⌜ IsWholeRoot (hi * 2 ^ 54 + lo) (r .root) (r .left) ⌝ }
 {
-    let w = settle(m, estimate(m));
-    widen(m, w.root, w.left)
+    let w = settle(hi, estimate(hi));
+    widen(hi, lo, w.root, w.left)
 }
 
 // A number near m's root: two steps bring 7 right digits to 28. How near it is decides how long settle takes, and nothing else.
@@ -65,15 +65,15 @@ fn settle(m: u64, s: u64) -> WholeRoot
     }
 }
 
-// 27 digits more, by one division: (s * 2^27 + d)^2 is s^2 * 2^54 + 2 * s * d * 2^27 + d^2, so what is left over divided by 2 * s gives d,
-// and d is right or, because of d^2, one too large.
-fn widen(m: u64, s: u64, left: u64) -> WholeRoot
-    requires { ⌜ (2 ^ 26 ≤ s) × (s < 2 ^ 27) × IsWholeRoot m s left ⌝ }
-    ensures { λ r. ⌜ IsWholeRoot (m * 2 ^ 54) (r .root) (r .left) ⌝ }
+// 27 digits more, by one division: (s * 2^27 + d)^2 is s^2 * 2^54 + 2 * s * d * 2^27 + d^2, so what is left over, with lo's upper half behind it, divided by
+// 2 * s gives d, and d is right or, because of d^2, one too large. lo's lower half joins the remainder.
+fn widen(m: u64, lo: u64, s: u64, left: u64) -> WholeRoot
+    requires { ⌜ (2 ^ 26 ≤ s) × (s < 2 ^ 27) × (lo < 2 ^ 54) × IsWholeRoot m s left ⌝ }
+    ensures { λ r. ⌜ IsWholeRoot (m * 2 ^ 54 + lo) (r .root) (r .left) ⌝ }
 {
-    let n = left * HALF;
+    let n = left * HALF + lo / HALF;
     let d = n / (s * 2);
-    let u = (n % (s * 2)) * HALF;
+    let u = (n % (s * 2)) * HALF + lo % HALF;
     let t = s * HALF + d;
     let v = d * d;
     if v <= u {

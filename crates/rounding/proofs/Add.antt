@@ -131,13 +131,17 @@ module _ (f : Format) (x y : Float) (p : Fin f x) (q : Fin f y) where
   pub sub-relative : T (finite (sub f x y)) → Relative f (sub f x y) (algebra.size (val f x ⊖ val f y)) 1
   sub-relative t = unfold sub in subst (λ (z : Z). Relative f (add f x (neg y)) (algebra.size (val f x ⊕ z)) 1) (neg-val f y) (add-relative f x (neg y) p (neg-fin f y q) t)
 
--- ---- a sum of two values that are not negative is not negative
-pub add-sign : (f : Format) (x y : Float) → Fin f x → Fin f y → negative x ≡ false → negative y ≡ false → negative (add f x y) ≡ false
-unfolding add Fin sum negative
-add-sign f nan y p q h k = absurd p
-add-sign f (inf s) y p q h k = absurd p
-add-sign f (fin s m e) nan p q h k = absurd q
-add-sign f (fin s m e) (inf t) p q h k = absurd q
-add-sign f (fin true m e) (fin t n d) p q h k = absurd (true≢false h)
-add-sign f (fin false m e) (fin true n d) p q h k = absurd (true≢false k)
-add-sign f (fin false m e) (fin false n d) p q h k = sign-kept f false (m * up e * down d + n * up d * down e) (down e * down d)
+-- ---- a sum of two floats that are not negative is not negative, finite or not: a NaN counts as not negative
+pub add-sign : (f : Format) (x y : Float) → negative x ≡ false → negative y ≡ false → negative (add f x y) ≡ false
+unfolding add sum negative
+add-sign f nan y h k = refl
+add-sign f (inf s) nan h k = refl
+add-sign f (inf true) (inf t) h k = absurd (true≢false h)
+add-sign f (inf false) (inf true) h k = absurd (true≢false k)
+add-sign f (inf false) (inf false) h k = refl
+add-sign f (inf s) (fin t n d) h k = h
+add-sign f (fin s m e) nan h k = refl
+add-sign f (fin s m e) (inf t) h k = k
+add-sign f (fin true m e) (fin t n d) h k = absurd (true≢false h)
+add-sign f (fin false m e) (fin true n d) h k = absurd (true≢false k)
+add-sign f (fin false m e) (fin false n d) h k = sign-kept f false (m * up e * down d + n * up d * down e) (down e * down d)

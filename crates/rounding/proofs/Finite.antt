@@ -1,7 +1,7 @@
--- Read backwards: a finite result has finite operands. So what a finite sum or square says of its operands needs no range of theirs.
+-- Read backwards: a finite result has finite operands. So what a finite sum says of its operands needs no range of theirs.
 use lib.Dec.{T}
 use mathlib.Core.Bool.{true, false}
-use lib.Ieee.{Float, nan, inf, fin, Format, add, sub, neg, mul}
+use lib.Ieee.{Float, nan, inf, fin, Format, add, sub, neg}
 use lib.Ieee.Scale.{finite}
 
 pub finite-add : (f : Format) (x y : Float) → T (finite (add f x y)) → T (finite x) × T (finite y)
@@ -26,9 +26,3 @@ finite-neg (fin s m e) t = tt
 pub finite-sub : (f : Format) (x y : Float) → T (finite (sub f x y)) → T (finite x) × T (finite y)
 unfolding sub
 finite-sub f x y t = let r = finite-add f x (neg y) t in (r .0, finite-neg y (r .1))
-
-pub finite-square : (f : Format) (x : Float) → T (finite (mul f x x)) → T (finite x)
-unfolding mul
-finite-square f nan t = absurd t
-finite-square f (inf s) t = absurd t
-finite-square f (fin s m e) t = tt

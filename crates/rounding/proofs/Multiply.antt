@@ -4,15 +4,13 @@ use Prim.Native.Nat.{ℕ, _+_, _*_, _^_, _≤_}
 use native.Mathlib.Nat.{mul-pos}
 use native.Mathlib.Omega.{arith}
 use mathlib.Core.Bool.{Bool, true, false}
-use lib.Dec.{T}
 use lib.Pow.{pow-pos}
 use lib.Ieee.{Float, nan, inf, fin, Format, prec, emax, low, up, down, mul, unlike}
 use lib.Ieee.Fits.{down-pos}
-use lib.Ieee.Scale.{finite}
 use Rattle.algebra.specs.Integer.{Within, _⊗_, _≈_}
 use Rattle.rounding.specs.Value.{mag, signed, negative, val, Fin}
 use Rattle.rounding.proofs.Value.{value-of}
-use Rattle.rounding.proofs.Rounded.{RoundOf, Rounded, Relative, recast, round-near, round-relative, round-sign}
+use Rattle.rounding.proofs.Rounded.{RoundOf, Rounded, recast, round-near, round-sign}
 
 -- m / e is A units and n / d is B
 pub both : (m n e d l A B : ℕ) → m * l ≡ A * e → n * l ≡ B * d → m * n * l * l ≡ A * B * (e * d)
@@ -51,9 +49,6 @@ module _ (f : Format) (x y : Float) (p : Fin f x) (q : Fin f y) where
       unfold val in
       recast (signs-mul (negative x) (negative y) (mag f x) (mag f y))
       (round-near (mul-is f x y p q) k (size-mul (negative x) (negative y) (mag f x) (mag f y) (2 ^ (prec f + k) * 2 ^ low f) h) o)
-
-  pub mul-relative : T (finite (mul f x y)) → Relative f (mul f x y) (mag f x * mag f y) (2 ^ low f)
-  mul-relative t = round-relative (mul-is f x y p q) t
 
   pub mul-sign : negative (mul f x y) ≡ unlike (negative x) (negative y)
   mul-sign = round-sign (mul-is f x y p q)

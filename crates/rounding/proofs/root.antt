@@ -3,7 +3,9 @@ pub mod Whole
 pub mod Nearest
 pub mod Error
 pub mod Unique
+pub mod Overflow
 pub mod Units
 pub mod Operation
+pub mod Hypot
 pub mod Tests
 pub mod Only

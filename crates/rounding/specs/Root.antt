@@ -1,4 +1,4 @@
--- IEEE 754's squareRoot: the value of the format nearest the exact root, ties to even; -0 is its own root, and what is below zero has none.
+-- IEEE 754's squareRoot and hypot. squareRoot is the value of the format nearest the exact root, ties to even; -0 is its own root, and what is below zero has none.
 -- The exact root need not be a fraction, so it is compared and never computed: `halves` keeps on which side of each whole number it lies.
 use Prim.Native.Nat.{ℕ, zero, suc, _+_, _-_, _*_, _/_, _^_}
 use mathlib.Core.Bool.{true, false, cond}
@@ -31,3 +31,18 @@ root f (inf false) = inf false
 root f (fin s zero e) = fin s zero e
 root f (fin true (suc m) e) = nan
 root f (fin false (suc m) e) = nearestRoot f (mag f (fin false (suc m) e) * 2 ^ low f) (low f)
+
+-- IEEE 754's hypot (9.2): the value of the format nearest the exact root of the exact sum of the two squares, ties to even. An infinity gives +infinity,
+-- even beside a NaN (9.2.1). The squares of a and b units are a * a and b * b square units, and the root of n of these is root(n) units.
+unfoldable pub hypot : Format → Float → Float → Float
+unfolding nearestRoot mag
+hypot f (inf s) y = inf false
+hypot f nan (inf t) = inf false
+hypot f nan nan = nan
+hypot f nan (fin t n d) = nan
+hypot f (fin s m e) (inf t) = inf false
+hypot f (fin s m e) nan = nan
+hypot f (fin s m e) (fin t n d) =
+    let a = mag f (fin s m e) in
+    let b = mag f (fin t n d) in
+    nearestRoot f (a * a + b * b) (low f)

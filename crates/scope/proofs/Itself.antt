@@ -16,12 +16,11 @@ use lib.Ieee.Order.{le-of-values}
 use lib.Ieee.Positive.{positive, positive-finite, between}
 use lib.Ieee.Scale.{finite, round-same}
 use Rattle.rounding.specs.Value.{Fin}
-use Rattle.rounding.specs.Root.{root}
 use Rattle.rounding.proofs.Value.{held, value-of, mag-below, fin-both}
 use Rattle.shapes.specs.Limits.{smallestRadius, largestRadius}
 use Rattle.shapes.specs.declared.point.Point.{Point}
 use Rattle.shapes.specs.declared.circle.Circle.{Circle}
-use Rattle.scope.specs.Numbers.{_+ᶠ_, _-ᶠ_, _*ᶠ_, _≤ᶠ_, nought, abs}
+use Rattle.scope.specs.Numbers.{_-ᶠ_, _≤ᶠ_, nought, abs}
 use Rattle.scope.specs.Limits.{within, coordinateOk, radiusOk}
 use Rattle.scope.specs.Refusals.{refusal, pairRefusal, badCentre, badPoint, badRadius, answer, given}
 use Rattle.scope.specs.Distance.{distance, contains, intersects, containsAnswer, intersectsAnswer}
@@ -86,13 +85,9 @@ fine true false r h = absurd (omega arith)
 fine true true false h = absurd (omega arith)
 fine true true true h = (tt, tt, tt)
 
-nothing-between : root binary64 (nought *ᶠ nought +ᶠ nought *ᶠ nought) ≡ nought
-unfolding computing
-nothing-between = refl
-
 distance-to-itself : (p : Point) → T (finite (p .x)) → T (finite (p .y)) → distance p p ≡ nought
 unfolding distance
-distance-to-itself p x y = rw (less-itself (p .x) x, less-itself (p .y) y) nothing-between
+distance-to-itself p x y = rw (less-itself (p .x) x, less-itself (p .y) y) (unfold computing in refl)
 
 pub contains-itself-and-does-not-intersect : (c : Circle) → T (fits binary64 (c .radius)) → pairRefusal c c ≡ 0
     → (containsAnswer c c ≡ given true) × (intersectsAnswer c c ≡ given false)

@@ -1,5 +1,5 @@
--- More samples, proved by computation: document 01's "By program" and "Mistakes to catch", each refusal of the card reader, ends of ranges, the writer,
--- proportions, packed rows and card stock.
+-- More samples, proved by computation: document 01's "By program" and "Mistakes to catch", each refusal of the card reader, ends of ranges, distances, the
+-- writer, proportions, packed rows and card stock.
 use Prim.Native.Nat.{ℕ, _-_, _/_, _%_, _^_}
 use mathlib.Core.Path.{_≡_, refl}
 use mathlib.Core.Bool.{Bool, true, false}
@@ -17,8 +17,9 @@ use Rattle.scope.specs.Runs.{tab, filled}
 use Rattle.scope.specs.Limits.{circleCap, coordinateOk, radiusOk, factorOk, sideOk, paddingOk, proportionOk, priceOk}
 use Rattle.scope.specs.Refusals.{refused, given, cardRefusal}
 use Rattle.shapes.specs.Records.{pointAt, circleOf, rectangleOf}
-use Rattle.scope.specs.Distance.{rootAnswer, distanceAnswer, circleDistanceAnswer, containsPointAnswer}
+use Rattle.scope.specs.Distance.{rootAnswer, distanceAnswer, circleDistanceAnswer, containsAnswer, containsPointAnswer, intersectsAnswer}
 use Rattle.scope.specs.Links.{regions}
+use Rattle.scope.specs.Offset.{magnitude}
 use Rattle.scope.specs.PackedRows.{packedRow, unpackedRow, packedWords, markOf, joinedWords}
 use Rattle.scope.specs.Groups.{refusedGrouping, areaGrouping, plainGrouping, clusters}
 use Rattle.scope.specs.Tolerance.{tolerance}
@@ -70,14 +71,6 @@ pub record RangeChecks : Type 0 where
   pub root-minus-inf : rootAnswer (inf true) ≡ refused 12
   pub root-minus-zero : rootAnswer (neg nought) ≡ given (neg nought)
   pub root-inf : rootAnswer (inf false) ≡ given (inf false)
-  -- distances
-  pub points : distanceAnswer (pointAt (whole 1) (whole 2)) (pointAt (whole 4) (whole 6)) ≡ given (whole 5)
-  pub points-nan : distanceAnswer (pointAt nan nought) (pointAt nought nought) ≡ refused 3
-  pub circles : circleDistanceAnswer (wholeCircle 0 0 1 1) (wholeCircle 3 4 2 2) ≡ given (whole 2)
-  pub circles-touch : circleDistanceAnswer (wholeCircle 0 0 2 1) (wholeCircle 3 4 3 2) ≡ given nought
-  pub circles-both : circleDistanceAnswer (circleOf nan nought nought 1) (wholeCircle 3 4 3 1) ≡ refused 3
-  pub circles-radius : circleDistanceAnswer (wholeCircle 0 0 0 1) (wholeCircle 3 4 3 2) ≡ refused 4
-  pub on-the-edge : containsPointAnswer (wholeCircle 0 0 5 1) (pointAt (whole 3) (whole 4)) ≡ given true
 
 pub ranges : RangeChecks
 unfolding computing
@@ -101,6 +94,41 @@ ranges =
       root-minus-inf = refl;
       root-minus-zero = refl;
       root-inf = refl;
+    }
+
+-- ---- distances
+
+abbrev pub tenth : Float
+tenth = ofBits binary64 0x3fb9_9999_9999_999a
+
+pub record DistanceChecks : Type 0 where
+  pub points : distanceAnswer (pointAt (whole 1) (whole 2)) (pointAt (whole 4) (whole 6)) ≡ given (whole 5)
+  pub points-nan : distanceAnswer (pointAt nan nought) (pointAt nought nought) ≡ refused 3
+  pub circles : circleDistanceAnswer (wholeCircle 0 0 1 1) (wholeCircle 3 4 2 2) ≡ given (whole 2)
+  pub circles-touch : circleDistanceAnswer (wholeCircle 0 0 2 1) (wholeCircle 3 4 3 2) ≡ given nought
+  pub circles-both : circleDistanceAnswer (circleOf nan nought nought 1) (wholeCircle 3 4 3 1) ≡ refused 3
+  pub circles-radius : circleDistanceAnswer (wholeCircle 0 0 0 1) (wholeCircle 3 4 3 2) ≡ refused 4
+  pub on-the-edge : containsPointAnswer (wholeCircle 0 0 5 1) (pointAt (whole 3) (whole 4)) ≡ given true
+  -- document 02, 6/14: (0,0) and (0.1,0.1) are one last place nearer than the root of the rounded squares says
+  pub not-the-root-of-rounded-squares : distanceAnswer (pointAt nought nought) (pointAt tenth tenth) ≡ given (ofBits binary64 0x3fc2_1a18_51ff_630a)
+  -- which the magnitude inside the offset step still is: it "keeps its written formula"
+  pub magnitude-by-its-formula : magnitude tenth tenth ≡ ofBits binary64 0x3fc2_1a18_51ff_630b
+  -- so one circle there contains another, and two of one radius cross; and two at (0,0) and (0.5,0.3), which are a last place further apart, only touch
+  pub contained-by-a-place : containsAnswer (circleOf nought nought (ofBits binary64 0x3fca_1a18_51ff_630a) 1) (circleOf tenth tenth (fin false 1 (negsuc 3)) 2) ≡ given true
+  pub crossing-by-a-place : intersectsAnswer (circleOf nought nought (ofBits binary64 0x3fb2_1a18_51ff_630b) 1) (circleOf tenth tenth (ofBits binary64 0x3fb2_1a18_51ff_630b) 2) ≡ given true
+  pub only-touching : plainGrouping (circleOf nought nought (ofBits binary64 0x3fd2_a8b7_3e29_4fb5) 1 ∷ circleOf half (ofBits binary64 0x3fd3_3333_3333_3333) (ofBits binary64 0x3fd2_a8b7_3e29_4fb5) 2 ∷ []) ≡ grouped 2 (0 ∷ 1 ∷ [])
+  -- exact roots half-way between two f64, of 54 digits: 11258999135535105 and 10977524293042179, over 2^34. The first goes down to the even one, the second up
+  pub tie-down : distanceAnswer (pointAt nought nought) (pointAt (fin false 9007199187632127 (negsuc 33)) (fin false 100663299 (negsuc 7))) ≡ given (fin false 167772161 (negsuc 7))
+  pub tie-up : distanceAnswer (pointAt nought nought) (pointAt (fin false 4222124449333245 (negsuc 33)) (fin false 301989897 (negsuc 8))) ≡ given (fin false 2744381073260545 (negsuc 31))
+  -- "the differences being rounded first": 1 less 2^-54 counts as 1, so that this is the root of 2, and not the f64 below
+  pub rounded-first : distanceAnswer (pointAt one one) (pointAt (fin false 1 (negsuc 53)) nought) ≡ given (ofBits binary64 0x3ff6_a09e_667f_3bcd)
+  -- no square is lost: the smallest f64
+  pub smallest : distanceAnswer (pointAt (ofBits binary64 1) nought) (pointAt nought nought) ≡ given (ofBits binary64 1)
+
+pub distances : DistanceChecks
+unfolding computing
+distances =
+    record {
       points = refl;
       points-nan = refl;
       circles = refl;
@@ -108,6 +136,15 @@ ranges =
       circles-both = refl;
       circles-radius = refl;
       on-the-edge = refl;
+      not-the-root-of-rounded-squares = refl;
+      magnitude-by-its-formula = refl;
+      contained-by-a-place = refl;
+      crossing-by-a-place = refl;
+      only-touching = refl;
+      tie-down = refl;
+      tie-up = refl;
+      rounded-first = refl;
+      smallest = refl;
     }
 
 -- ---- clusters

@@ -3,10 +3,10 @@ use Prim.Native.Nat.{ℕ}
 use mathlib.Core.Bool.{Bool, _&&_, _||_, cond}
 use mathlib.Core.List.{[], _∷_}
 use lib.Ieee.{Float, binary64, isNan}
-use Rattle.rounding.specs.Root.{root}
+use Rattle.rounding.specs.Root.{root, hypot}
 use Rattle.shapes.specs.declared.point.Point.{Point}
 use Rattle.shapes.specs.declared.circle.Circle.{Circle}
-use Rattle.scope.specs.Numbers.{_+ᶠ_, _-ᶠ_, _*ᶠ_, _<ᶠ_, _≤ᶠ_, nought, abs}
+use Rattle.scope.specs.Numbers.{_+ᶠ_, _-ᶠ_, _<ᶠ_, _≤ᶠ_, nought, abs}
 use Rattle.scope.specs.Refusals.{Answer, answer, refusal, pointsRefusal, pairRefusal, circlePointRefusal}
 
 -- 12, "root of NaN or of a number below 0"
@@ -20,12 +20,9 @@ rootRefusal x = refusal ((12, noRoot x) ∷ [])
 unfoldable pub rootAnswer : Float → Answer Float
 rootAnswer x = answer (rootRefusal x) (root binary64 x)
 
--- "with x and y the coordinate differences, the stand-in is the root of (x*x + y*y), each step rounded"
+-- document 02, 6/14: "the f64 nearest the exact root of the exact sum of the two squares, the differences being rounded first as now, ties to even"
 unfoldable pub distance : Point → Point → Float
-distance p q =
-    let x = p .x -ᶠ q .x in
-    let y = p .y -ᶠ q .y in
-    root binary64 (x *ᶠ x +ᶠ y *ᶠ y)
+distance p q = hypot binary64 (p .x -ᶠ q .x) (p .y -ᶠ q .y)
 
 -- "contains is distance + other radius <= radius"
 unfoldable pub contains : Circle → Circle → Bool

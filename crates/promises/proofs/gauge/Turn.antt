@@ -136,7 +136,7 @@ module _ (a b : Float) (p : Fin binary64 a) (q : Fin binary64 b) (la : size a â‰
       let S = aa +á¶  bb in
       let vx = val-mag binary64 aa (x .sign) in
       let vy = val-mag binary64 bb (y .sign) in
-      let sign = add-sign binary64 aa bb (x .fin) (y .fin) (x .sign) (y .sign) in
+      let sign = add-sign binary64 aa bb (x .sign) (y .sign) in
       let r = add64 7 tt aa bb (x .fin) (y .fin) (rw (vx, vy) (omega (arith, x .small, y .small, pow2-scale 60 1))) in
       let near = close-sizes false (size aa + size bb) (rw (vx, vy) refl) r in
       let z = rooted S (r .fin) sign (omega (arith, mag-le S (pow2 61) (r .within), pow2-scale 60 1)) in

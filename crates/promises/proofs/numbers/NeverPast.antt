@@ -75,7 +75,7 @@ module _ (f : Format) (x y : Float) (p : Fin f x) (q : Fin f y) (s : negative x 
   pub sum-not-below : Fin f (add f x y) → val f x ≼ val f (add f x y)
   sum-not-below F =
       let g = rounded-not-below sum-round (fin-finite f (add f x y) F) (mag f x) (held f x p) (omega arith) in
-      rw (val-mag f x s, val-mag f (add f x y) (add-sign f x y p q s t)) (omega arith)
+      rw (val-mag f x s, val-mag f (add f x y) (add-sign f x y s t)) (omega arith)
 
 -- ---- the root
 module _ (f : Format) (x w : Float) (p : Fin f x) (s : negative x ≡ false) (q : Fin f w) where

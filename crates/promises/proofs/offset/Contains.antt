@@ -55,7 +55,7 @@ sum-below : (g r R : Float) → Fin binary64 g → Fin binary64 r → Fin binary
     → T (le (g +ᶠ r) R) → mag binary64 g + mag binary64 r ≤ mag binary64 R + pow2 28
 sum-below g r R fg fr fR sg sr sR wR t =
     let z = g +ᶠ r in
-    let sz = add-sign binary64 g r fg fr sg sr in
+    let sz = add-sign binary64 g r sg sr in
     let tz = finite-below z R sz (fin-finite binary64 R fR) t in
     let fz = fin-both binary64 z tz (add-fits binary64 g r) in
     let z-below = rw (val-mag binary64 z sz, val-mag binary64 R sR) at (le-is binary64 z R fz fR .0 t) in

@@ -18,6 +18,7 @@ use Rattle.rounding.specs.Value.{mag, negative, val, Fin}
 use Rattle.rounding.specs.Scale.{pow2}
 use Rattle.rounding.proofs.Value.{fin-both, val-mag}
 use Rattle.rounding.proofs.Double.{sub64, one as one-is}
+use Rattle.rounding.proofs.Add.{add-sign}
 use Rattle.rounding.proofs.Order.{lt-is}
 use Rattle.rounding.proofs.Finite.{finite-add}
 use Rattle.scope.specs.Numbers.{_+ᶠ_, _-ᶠ_, _*ᶠ_, _<ᶠ_, _≤ᶠ_, nought, one, e-6}
@@ -29,7 +30,6 @@ use Rattle.scope.specs.Promises.{units}
 use Rattle.laws.proofs.Cases.{and-iff, not-iff, or-iff, eqb-iff, tested}
 use Rattle.laws.proofs.Runs.{gather-takes, gather-leaves, gather-keeps}
 use Rattle.promises.proofs.numbers.Magnitude.{mag-le, within-mag}
-use Rattle.promises.proofs.numbers.Signs.{sum-not-negative}
 use Rattle.promises.proofs.numbers.SmallFactor.{product-no-larger}
 
 -- ---- an area that is not at most 0 has no sign
@@ -72,7 +72,7 @@ module _ (rs : List Region) (i : ℕ) where
   unfolding total negative
   total-not-negative =
       gather-keeps (λ t r. t +ᶠ r .area) nought (λ t. negative t ≡ false) summed (length rs) (region rs) refl
-      (λ k t l u h. sum-not-negative binary64 t (region rs k .area) h (above-zero-not-negative (region rs k .area) (summed-iff k .0 u .1)))
+      (λ k t l u h. add-sign binary64 t (region rs k .area) h (above-zero-not-negative (region rs k .area) (summed-iff k .0 u .1)))
 
   total-fits : T (fits binary64 (total rs i))
   unfolding total fits

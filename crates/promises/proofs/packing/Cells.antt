@@ -93,7 +93,7 @@ module _ (i : ℕ) (t : T (leb i 1029)) (w : ℕ → Float) (c M : ℕ) (room : 
       let r = next-close j l h in
       record {
         fin = r .fin;
-        sign = add-sign binary64 (start w j) (w j) (h .fin) (widths j l .fin) (h .sign) (widths j l .sign);
+        sign = add-sign binary64 (start w j) (w j) (h .sign) (widths j l .sign);
         within = sum (units (start w j)) (units (w j)) (units (add binary64 (start w j) (w j))) j M (pow2 i) (h .within) (widths j l .within) (near-of (r .near));
       }
     where

@@ -43,7 +43,7 @@ module _ (i : ℕ) (t : T (leb i 1029)) (a : ℕ) (f : ℕ → Float) (k : ℕ) 
       let x = gather (add binary64) nought always n f in
       let e = each n l in
       let r = add64 i t x (f n) (h .fin) (e .fin) (in-range (units x) (units (f n)) n (pow2 a) (pow2 (54 + i)) (h .within) (e .within) (le-trans (mul-le-mul-right (pow2 a) l) room)) in
-      let s = add-sign binary64 x (f n) (h .fin) (e .fin) (h .sign) (e .sign) in
+      let s = add-sign binary64 x (f n) (h .sign) (e .sign) in
       let sizes = sum-size (mag binary64 x) (mag binary64 (f n)) n (pow2 a) (mag-le x (n * pow2 a) (h .within)) (mag-le (f n) (pow2 a) (e .within)) in
       let m = sum-not-above binary64 x (f n) (h .fin) (e .fin) (h .sign) (e .sign) (suc n * pow2 a) (multiple-held (suc n) l) (r .fin) sizes in
       record { fin = r .fin; sign = s; within = within-mag (add binary64 x (f n)) (suc n * pow2 a) s m }

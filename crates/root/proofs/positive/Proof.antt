@@ -1,6 +1,7 @@
 -- `root::positive` meets its contract.
 use borrow.Author.Needs.{needs}
 use native.Mathlib.Omega.{arith}
+use Rattle.root.proofs.WholeLaws.{nothing-behind}
 use Rattle.root.proofs.NearestLaws.{root-fits, result-no-nan, result-is-root}
 use Rattle.root.proofs.positive.Statement.{statement}
 use Rattle.root.proofs.positive.Tie as tie
@@ -8,8 +9,8 @@ use Rattle.root.proofs.positive.Tie as tie
 split-requires : tie.Need-split-requires
 split-requires c κs = search needs
 
-root-54-requires : tie.Need-root-54-requires
-root-54-requires c κs = search needs
+root-requires : tie.Need-root-requires
+root-requires c κs = search needs
 
 add-result : tie.Need-add-result
 add-result c = search needs
@@ -20,8 +21,8 @@ mul-result c = search needs
 add-result-2 : tie.Need-add-result-2
 add-result-2 c =
     let p = c .before .before .before .split in
-    let w = c .before .before .root-54 in
-    let h = root-fits (c .before .before .before .before .args .b) (p .result .digits) (p .result .half) (w .result .root) (w .result .left) (p .ensures) (w .ensures) in
+    let w = c .before .before .root in
+    let h = root-fits (c .before .before .before .before .args .b) (p .result .digits) (p .result .half) (w .result .root) (w .result .left) (p .ensures) (nothing-behind _ _ _ (w .ensures)) in
     omega arith
 
 add-result-3 : tie.Need-add-result-3
@@ -30,22 +31,22 @@ add-result-3 c = search needs
 float-from-bits-result : tie.Need-float-from-bits-result
 float-from-bits-result c =
     let p = c .before .before .before .split in
-    let w = c .before .before .root-54 in
-    result-no-nan (c .before .before .before .before .args .b) (p .result .digits) (p .result .half) (w .result .root) (w .result .left) (p .ensures) (w .ensures)
+    let w = c .before .before .root in
+    result-no-nan (c .before .before .before .before .args .b) (p .result .digits) (p .result .half) (w .result .root) (w .result .left) (p .ensures) (nothing-behind _ _ _ (w .ensures))
 
 returns : tie.Need-returns
 returns c =
     let a = c .before .before .before .before in
     let p = c .before .before .before .split in
-    let w = c .before .before .root-54 in
-    result-is-root (a .args .b) (p .result .digits) (p .result .half) (w .result .root) (w .result .left) (p .ensures) (w .ensures) (a .pre .1)
+    let w = c .before .before .root in
+    result-is-root (a .args .b) (p .result .digits) (p .result .half) (w .result .root) (w .result .left) (p .ensures) (nothing-behind _ _ _ (w .ensures)) (a .pre .1)
 
 pub positive-spec : {M : Type 1} → statement M
 positive-spec =
     tie.close
     (tie.spec
     split-requires
-    root-54-requires
+    root-requires
     add-result
     mul-result
     add-result-2

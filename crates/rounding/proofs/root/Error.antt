@@ -62,7 +62,7 @@ nearest-root-near f n k i room h =
     under : (g n d u : ℕ) → Half (g * d) n (u * d) → 2 * n ≤ (2 * g + u) * d
     under g n d u h = omega arith
 
--- ---- the relative law, with no range asked: the root is at most c half units, and at least
+-- ---- the relative law, with no range asked: the root is at most c half units
 module _ (f : Format) (n k c : ℕ) (t : T (finite (nearestRoot f n k))) where
   pub nearest-root-le : (Q : ℕ) → 0 < Q → 2 ^ prec f ≡ Q + 1 → (2 * mag f (nearestRoot f n k) + 1) * 2 ^ prec f ≤ c * Q → squareOfRoot f n ≤ squareOf k c
   nearest-root-le Q Q-pos E h =
@@ -75,15 +75,3 @@ module _ (f : Format) (n k c : ℕ) (t : T (finite (nearestRoot f n k))) where
     where
       reach : (P Q g c n d : ℕ) → 0 < Q → P ≡ Q + 1 → 2 * (P * n) ≤ 2 * (P * (g * d)) + (2 * n + P * d) → (2 * g + 1) * P ≤ c * Q → 2 * n ≤ c * d
       reach P Q g c n d Q-pos E r h = le-of-mul-le-mul-right {k = Q} (omega (arith, ap (λ (y : ℕ). y * n) E, mul-le-mul-right d h)) Q-pos
-
-  pub le-nearest-root : c * (2 ^ prec f + 1) + 2 ^ prec f ≤ 2 * mag f (nearestRoot f n k) * 2 ^ prec f → squareOf k c ≤ squareOfRoot f n
-  le-nearest-root h =
-      let num = halvesOf f n k * 2 ^ low f in
-      let den = scaleOf f k in
-      square-le-root f n k c
-      (reach (2 ^ prec f) (rnd (prec f) num den) c num den
-      (rnd-relative (prec f) num den (two-le-pos (prec f) (two f)) (scale-pos f k) .0)
-      (rw (nearest-root-size f n k t) at h))
-    where
-      reach : (P g c n d : ℕ) → 2 * (P * (g * d)) ≤ 2 * (P * n) + (2 * n + P * d) → c * (P + 1) + P ≤ 2 * g * P → c * d ≤ 2 * n
-      reach P g c n d r h = le-of-mul-le-mul-right {k = P + 1} (omega (arith, mul-le-mul-right d h)) (omega arith)

@@ -18,8 +18,8 @@ use Rattle.rounding.specs.NearestRoot.{squareOfRoot}
 use Rattle.rounding.specs.Value.{mag, negative, Fin}
 use Rattle.rounding.proofs.Value.{fin-finite, mag-zero, mag-below}
 use Rattle.rounding.proofs.Unique.{val-unique}
-use Rattle.rounding.proofs.root.Error.{nearest-root-near, nearest-root-le, le-nearest-root}
-use Rattle.rounding.proofs.root.Units.{IsUnitsRoot, RootIs, units-root, units-root-near, units-root-unique, cancel-le, cancel-ge, spread-ge, quarter-le, quarter-ge}
+use Rattle.rounding.proofs.root.Error.{nearest-root-near}
+use Rattle.rounding.proofs.root.Units.{IsUnitsRoot, RootIs, units-root, units-root-near, spread-ge}
 
 -- ---- the special cases
 pub record SpecialRoots (f : Format) : Type 0 where
@@ -103,26 +103,3 @@ module _ (f : Format) (x : Float) (h : Fin f x) (s : negative x ≡ false) where
   -- the absolute law, over the exponent
   pub root-near : (j : ℕ) → prec f + suc j ≤ low f + emax f → rootSquare f x ≤ 2 ^ (prec f + suc j) * 2 ^ (prec f + suc j) → RootIs f (rootSquare f x) (root f x) j
   root-near j room b = rw (root-is-nearest f x h s) (units-root-near f (rootSquare f x) j room b)
-
-  -- the relative laws, with no range asked: the root is at most a units, and at least
-  pub root-le : (a Q : ℕ) → 0 < Q → 2 ^ prec f ≡ Q + 1 → (2 * mag f (root f x) + 1) * 2 ^ prec f ≤ 2 * a * Q → rootSquare f x ≤ a * a
-  root-le a Q Q-pos E l = quarter-ge a (2 * a) (rootSquare f x) refl (cancel-ge f (rootSquare f x) (2 * a) (nearest-root-le f (rootSquare f x) (low f) (2 * a) finite-nearest Q Q-pos E (rw (root-is-nearest f x h s) at l)))
-
-  pub le-root : (a : ℕ) → 2 * a * (2 ^ prec f + 1) + 2 ^ prec f ≤ 2 * mag f (root f x) * 2 ^ prec f → a * a ≤ rootSquare f x
-  le-root a l = quarter-le a (2 * a) (rootSquare f x) refl (cancel-le f (rootSquare f x) (2 * a) (le-nearest-root f (rootSquare f x) (low f) (2 * a) finite-nearest (rw (root-is-nearest f x h s) at l)))
-
-  -- with e large against 1 part in 2 ^ prec of the root
-  pub root-rel : (Q e : ℕ) → 0 < Q → 2 ^ prec f ≡ Q + 1 → 2 * mag f (root f x) + 1 + Q ≤ 2 * (Q * e) → rootSquare f x ≤ (mag f (root f x) + e) * (mag f (root f x) + e)
-  root-rel Q e Q-pos E l = root-le (mag f (root f x) + e) Q Q-pos E (rw E (more (mag f (root f x)) e Q l))
-    where
-      more : (g e Q : ℕ) → 2 * g + 1 + Q ≤ 2 * (Q * e) → (2 * g + 1) * (Q + 1) ≤ 2 * (g + e) * Q
-      more g e Q l = omega arith
-
--- ---- and z is the root where it lies strictly between the half-way points around it, as for `units-root-unique`: the root of a float is never exactly half-way (for request 13 of document 02)
-pub root-unique : (f : Format) (m : ℕ) (e : ℤ) (z : Float) (q j : ℕ) → Fin f z → negative z ≡ false → mag f z ≡ q * 2 ^ suc j → prec f + suc j ≤ low f + emax f
-    → 2 ^ (prec f - 1 + suc j) * 2 ^ (prec f - 1 + suc j) ≤ rootSquare f (fin false (suc m) e)
-    → rootSquare f (fin false (suc m) e) < 2 ^ (prec f + suc j) * 2 ^ (prec f + suc j)
-    → (c : ℕ) → c + 2 ^ j ≡ mag f z → c * c < rootSquare f (fin false (suc m) e)
-    → rootSquare f (fin false (suc m) e) < (mag f z + 2 ^ j) * (mag f z + 2 ^ j)
-    → root f (fin false (suc m) e) ≡ z
-root-unique f m e z q j h s size room lo hi c half l g = root-is f m e ∙ units-root-unique f (rootSquare f (fin false (suc m) e)) z q j h s size room lo hi c half l g

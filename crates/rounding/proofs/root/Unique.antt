@@ -15,15 +15,15 @@ use Rattle.algebra.proofs.Size.{either}
 use Rattle.rounding.specs.Root.{nearestRoot}
 use Rattle.rounding.specs.NearestRoot.{squareOf, squareOfRoot}
 use Rattle.rounding.specs.Value.{mag, negative, Fin}
-use Rattle.rounding.proofs.Value.{Held, held, mag-of, sign-of, fin-of}
+use Rattle.rounding.proofs.Value.{Held, held, mag-of, sign-of, fin-of, mag-below}
 use Rattle.rounding.proofs.Closest.{Half, Midway, closest-half}
-use Rattle.rounding.proofs.Round.{rnd, rnd-le, drop-le, round-units, no-overflow}
+use Rattle.rounding.proofs.Round.{rnd, drop-le, round-units}
 use Rattle.rounding.proofs.Nearest.{rnd-tie}
 use Rattle.rounding.proofs.Unique.{val-unique}
 use Rattle.rounding.proofs.root.Nearest.{halvesOf, scaleOf, scale-pos, nearest-root-is, square-le-root, root-le-square, scaled-le-fraction, fraction-le-scaled}
 
 -- ---- of a fraction: how many digits are dropped, and the one number of that many
-drop-ge : (p n den d : ℕ) → 0 < p → 0 < den → (0 < d → 2 ^ (p - 1 + d) * den ≤ n) → d ≤ drop p n den
+pub drop-ge : (p n den d : ℕ) → 0 < p → 0 < den → (0 < d → 2 ^ (p - 1 + d) * den ≤ n) → d ≤ drop p n den
 drop-ge p n den zero P D lo = omega arith
 drop-ge p n den (suc d) P D lo =
     let reached = le-div-iff-mul-le D .1 (lo (omega arith)) in
@@ -52,7 +52,7 @@ parity : (x q : ℕ) → (x ≡ q + 1) ⊎ (q ≡ x + 1) → x % 2 ≡ 0 → q %
 parity x q (inl e) a b = omega arith
 parity x q (inr e) a b = omega arith
 
-rnd-only : (p n den q d : ℕ) → 0 < p → 0 < den → Held p (q * 2 ^ d) → drop p n den ≡ d → Half (q * (den * 2 ^ d)) n (den * 2 ^ d) → (Midway q n (den * 2 ^ d) → q % 2 ≡ 0)
+pub rnd-only : (p n den q d : ℕ) → 0 < p → 0 < den → Held p (q * 2 ^ d) → drop p n den ≡ d → Half (q * (den * 2 ^ d)) n (den * 2 ^ d) → (Midway q n (den * 2 ^ d) → q % 2 ≡ 0)
     → rnd p n den ≡ q * 2 ^ d
 rnd-only p n den q d P D H e k even =
     let i = drop p n den in
@@ -80,7 +80,6 @@ pub record BetweenHalfWays (f : Format) (n k : ℕ) (z : Float) (q i c : ℕ) : 
   pub fin : Fin f z
   pub sign : negative z ≡ false
   pub size : mag f z ≡ q * 2 ^ i
-  pub room : prec f + i ≤ low f + emax f
   pub long : 0 < i → squareOf k (2 * 2 ^ (prec f - 1 + i)) ≤ squareOfRoot f n
   pub short : squareOfRoot f n < squareOf k (2 * 2 ^ (prec f + i))
   pub half-way : c + 2 ^ i ≡ 2 * mag f z
@@ -143,6 +142,6 @@ module _ (f : Format) (n k : ℕ) where
         let hi : num < 2 ^ (p + i) * den = fraction-lt (2 ^ (p + i)) (placed .short) in
         let dropped : drop p num den ≡ i = le-antisymm (drop-le p num den i D hi) (drop-ge p num den i P D (λ (l : 0 < i). fraction-ge (2 ^ (p - 1 + i)) (placed .long l))) in
         let is : g ≡ q * 2 ^ i = rnd-only p num den q i P D (rw (placed .size) at (held f z (placed .fin))) dropped near even in
-        let v = round-units f false (halvesOf f n k) den (no-overflow f i g (placed .room) (rnd-le p num den i D hi)) in
+        let v = round-units f false (halvesOf f n k) den (subst (λ (y : ℕ). y < 2 ^ (low f + suc (emax f))) (sym (is ∙ sym (placed .size))) (mag-below f z (placed .fin))) in
         nearest-root-is f n k
         ∙ val-unique f r z (fin-of f false false (halvesOf f n k) den g (2 ^ low f) v) (placed .fin) (sign-of r false g (2 ^ low f) v ∙ sym (placed .sign)) (mag-of f r false g v ∙ is ∙ sym (placed .size))

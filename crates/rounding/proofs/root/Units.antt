@@ -2,12 +2,12 @@
 -- only one so near. The root of a float and the root of an exact sum of squares are of this form.
 use mathlib.Core.Path.{_≡_, sym, ap, _∙_}
 use mathlib.Core.Bool.{false}
-use Prim.Native.Nat.{ℕ, suc, _+_, _-_, _*_, _^_, _≤_, _<_}
-use native.Mathlib.Nat.{mul-le-mul-right, mul-lt-mul-of-pos-right, mul-pos, le-of-mul-le-mul-right, le-of-eq, le-of-lt, not-le-of-lt, pow-succ'}
+use Prim.Native.Nat.{ℕ, suc, _+_, _-_, _*_, _%_, _^_, _≤_, _<_}
+use native.Mathlib.Nat.{mul-le-mul-right, mul-lt-mul-of-pos-right, mul-pos, le-of-mul-le-mul-right, le-of-eq, le-antisymm, pow-succ'}
 use native.Mathlib.Omega.{arith}
 use lib.Dec.{T}
 use lib.Pow.{pow-pos}
-use lib.Ieee.{Float, Format, prec, emax, low}
+use lib.Ieee.{Float, inf, Format, prec, emax, low}
 use lib.Ieee.Scale.{finite}
 use Rattle.rounding.specs.Root.{nearestRoot}
 use Rattle.rounding.specs.NearestRoot.{squareOf, squareOfRoot}
@@ -15,6 +15,7 @@ use Rattle.rounding.specs.Value.{mag, negative, Fin, lastDigit}
 use Rattle.rounding.proofs.root.Nearest.{nearest-root}
 use Rattle.rounding.proofs.root.Error.{nearest-root-near}
 use Rattle.rounding.proofs.root.Unique.{nearest-root-unique}
+use Rattle.rounding.proofs.root.Overflow.{nearest-root-overflow}
 
 -- ---- at the scale of one unit the squares cancel: c half units compare with the root of n units as c * c with 4 * n
 abbrev unitSquare : Format → ℕ
@@ -30,7 +31,7 @@ module _ (f : Format) (n c : ℕ) where
   root-square-is : squareOfRoot f n ≡ 4 * n * unitSquare f
   root-square-is = omega arith
 
-  pub cancel-le : squareOf (low f) c ≤ squareOfRoot f n → c * c ≤ 4 * n
+  cancel-le : squareOf (low f) c ≤ squareOfRoot f n → c * c ≤ 4 * n
   cancel-le h = le-of-mul-le-mul-right {k = unitSquare f} (rw (square-is, root-square-is) at h) unit-square-pos
 
   pub cancel-ge : squareOfRoot f n ≤ squareOf (low f) c → 4 * n ≤ c * c
@@ -94,27 +95,28 @@ units-root-near f n j room h =
       within = r .within;
     }
 
--- ---- and z is the root where it lies strictly between the half-way points around it: z is q * 2 ^ (j + 1) units, these are c and mag z + 2 ^ j units,
--- and the root has prec + j + 1 digits
-pub units-root-unique : (f : Format) (n : ℕ) (z : Float) (q j : ℕ) → Fin f z → negative z ≡ false → mag f z ≡ q * 2 ^ suc j → prec f + suc j ≤ low f + emax f
-    → 2 ^ (prec f - 1 + suc j) * 2 ^ (prec f - 1 + suc j) ≤ n → n < 2 ^ (prec f + suc j) * 2 ^ (prec f + suc j)
-    → (c : ℕ) → c + 2 ^ j ≡ mag f z → c * c < n → n < (mag f z + 2 ^ j) * (mag f z + 2 ^ j) → nearestRoot f n (low f) ≡ z
-units-root-unique f n z q j h s size room lo hi c e l g =
-    let double = pow-succ' 2 j in
-    let below : 2 * c * (2 * c) < 4 * n = omega arith in
-    let up : 2 * mag f z + 2 ^ suc j ≡ 2 * (mag f z + 2 ^ j) = omega arith in
-    let above : 4 * n < (2 * mag f z + 2 ^ suc j) * (2 * mag f z + 2 ^ suc j) = rw up (omega arith) in
-    nearest-root-unique f n (low f) z q (suc j) (2 * c)
+-- ---- and z is the root where it lies between the half-way points around it, and is even where it lies at one: z is q * 2 ^ i units, the points are c and
+-- 2 * mag z + 2 ^ i half units, and the root has prec + i digits or, where i is 0, fewer
+pub units-root-unique : (f : Format) (n : ℕ) (z : Float) (q i c : ℕ) → Fin f z → negative z ≡ false → mag f z ≡ q * 2 ^ i
+    → (0 < i → 2 ^ (prec f - 1 + i) * 2 ^ (prec f - 1 + i) ≤ n) → n < 2 ^ (prec f + i) * 2 ^ (prec f + i) → c + 2 ^ i ≡ 2 * mag f z
+    → c * c ≤ 4 * n → 4 * n ≤ (2 * mag f z + 2 ^ i) * (2 * mag f z + 2 ^ i)
+    → (c * c ≡ 4 * n → q % 2 ≡ 0) → (4 * n ≡ (2 * mag f z + 2 ^ i) * (2 * mag f z + 2 ^ i) → q % 2 ≡ 0) → nearestRoot f n (low f) ≡ z
+units-root-unique f n z q i c h s size lo hi e l g tie-below tie-above =
+    let d = 2 * mag f z + 2 ^ i in
+    nearest-root-unique f n (low f) z q i c
     (record {
       fin = h;
       sign = s;
       size = size;
-      room = room;
-      long = λ _. spread-le f n (2 * 2 ^ (prec f - 1 + suc j)) (omega arith);
-      short = spread-lt f n (2 * 2 ^ (prec f + suc j)) (omega arith);
-      half-way = omega arith;
-      below = spread-le f n (2 * c) (le-of-lt below);
-      above = spread-ge f n (2 * mag f z + 2 ^ suc j) (le-of-lt above);
-      even-below = λ (t : squareOf (low f) (2 * c) ≡ squareOfRoot f n). absurd (not-le-of-lt below (cancel-ge f n (2 * c) (le-of-eq (sym t))));
-      even-above = λ (t : squareOfRoot f n ≡ squareOf (low f) (2 * mag f z + 2 ^ suc j)). absurd (not-le-of-lt above (cancel-le f n (2 * mag f z + 2 ^ suc j) (le-of-eq (sym t))));
+      long = λ (p : 0 < i). let m = lo p in spread-le f n (2 * 2 ^ (prec f - 1 + i)) (omega arith);
+      short = spread-lt f n (2 * 2 ^ (prec f + i)) (omega arith);
+      half-way = e;
+      below = spread-le f n c l;
+      above = spread-ge f n d g;
+      even-below = λ (t : squareOf (low f) c ≡ squareOfRoot f n). tie-below (le-antisymm l (cancel-ge f n c (le-of-eq (sym t))));
+      even-above = λ (t : squareOfRoot f n ≡ squareOf (low f) d). tie-above (le-antisymm g (cancel-le f n d (le-of-eq (sym t))));
     })
+
+-- ---- and from half-way past the largest value on it is infinite
+pub units-root-overflow : (f : Format) (n i : ℕ) → prec f + i ≡ low f + suc (emax f) → (2 * 2 ^ (prec f + i) - 2 ^ i) * (2 * 2 ^ (prec f + i) - 2 ^ i) ≤ 4 * n → nearestRoot f n (low f) ≡ inf false
+units-root-overflow f n i top h = nearest-root-overflow f n (low f) i top (spread-le f n (2 * 2 ^ (prec f + i) - 2 ^ i) h)

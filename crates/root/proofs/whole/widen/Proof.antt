@@ -1,13 +1,18 @@
 -- `root::whole::widen` meets its contract, by the laws of the quotient and the remainder.
-use Prim.Native.Nat.{_*_, _/_, _%_, _^_}
+use mathlib.Core.Path.{subst}
+use Prim.Native.Nat.{ℕ, _+_, _-_, _*_, _/_, _%_, _^_}
 use native.Mathlib.Omega.{arith}
 use borrow.Author.Needs.{needs}
-use Rattle.root.proofs.WholeLaws.{quotient, enough-left, digits-right, digits-one-less}
+use Rattle.root.specs.Parts.{IsWholeRoot}
+use Rattle.root.proofs.WholeLaws.{quotient, enough-left, digits-right, digits-one-less, halves-joined}
 use Rattle.root.proofs.whole.widen.Statement.{statement}
 use Rattle.root.proofs.whole.widen.Tie as tie
 
 mul-n : tie.Need-mul-n
 mul-n c = search needs
+
+add-n : tie.Need-add-n
+add-n c = search needs
 
 mul-d : tie.Need-mul-d
 mul-d c = search needs
@@ -22,64 +27,55 @@ rem-u : tie.Need-rem-u
 rem-u c = search needs
 
 mul-u-2 : tie.Need-mul-u-2
-mul-u-2 c = let a = c .args in let v = quotient (a .s) (a .left) (c .pre .0) (c .pre .2 .rest) in omega arith
+mul-u-2 c = let a = c .args in let v = quotient (a .s) (a .left) (a .lo / 2 ^ 27) (c .pre .0) (c .pre .3 .rest) (omega arith) in omega arith
+
+add-u : tie.Need-add-u
+add-u c = let a = c .args in let v = quotient (a .s) (a .left) (a .lo / 2 ^ 27) (c .pre .0) (c .pre .3 .rest) (omega arith) in omega arith
 
 mul-t : tie.Need-mul-t
 mul-t c = search needs
 
 add-t : tie.Need-add-t
-add-t c = let a = c .args in let v = quotient (a .s) (a .left) (c .pre .0) (c .pre .2 .rest) in omega arith
+add-t c = let a = c .args in let v = quotient (a .s) (a .left) (a .lo / 2 ^ 27) (c .pre .0) (c .pre .3 .rest) (omega arith) in omega arith
 
 mul-v : tie.Need-mul-v
-mul-v c = let a = c .args in let v = quotient (a .s) (a .left) (c .pre .0) (c .pre .2 .rest) in omega arith
+mul-v c = let a = c .args in let v = quotient (a .s) (a .left) (a .lo / 2 ^ 27) (c .pre .0) (c .pre .3 .rest) (omega arith) in omega arith
 
-sub-t14 : tie.Need-sub-t14
-sub-t14 c = search needs
+sub-t17 : tie.Need-sub-t17
+sub-t17 c = search needs
 
-mul-t15 : tie.Need-mul-t15
-mul-t15 c = let a = c .before .args in let v = quotient (a .s) (a .left) (c .before .pre .0) (c .before .pre .2 .rest) in omega arith
+mul-t18 : tie.Need-mul-t18
+mul-t18 c = let a = c .before .args in let p = c .before .pre in let v = quotient (a .s) (a .left) (a .lo / 2 ^ 27) (p .0) (p .3 .rest) (omega arith) in omega arith
 
-sub-t16 : tie.Need-sub-t16
-sub-t16 c = search needs
+sub-t19 : tie.Need-sub-t19
+sub-t19 c = search needs
 
-add-t17 : tie.Need-add-t17
-add-t17 c = let a = c .before .args in let v = quotient (a .s) (a .left) (c .before .pre .0) (c .before .pre .2 .rest) in omega arith
+add-t20 : tie.Need-add-t20
+add-t20 c = let a = c .before .args in let p = c .before .pre in let v = quotient (a .s) (a .left) (a .lo / 2 ^ 27) (p .0) (p .3 .rest) (omega arith) in omega arith
 
-sub-t18 : tie.Need-sub-t18
-sub-t18 c =
+sub-t21 : tie.Need-sub-t21
+sub-t21 c =
     let a = c .before .args in
     let p = c .before .pre in
-    enough-left (a .m) (a .s) (a .left) (a .left * 2 ^ 27 / (a .s * 2)) (a .left * 2 ^ 27 % (a .s * 2)) (p .0) (p .2) (quotient (a .s) (a .left) (p .0) (p .2 .rest)) (c .if1 .left)
+    let n = a .left * 2 ^ 27 + a .lo / 2 ^ 27 in
+    enough-left (a .m) (a .s) (a .left) (a .lo / 2 ^ 27) (a .lo % 2 ^ 27) (n / (a .s * 2)) (n % (a .s * 2)) (p .0) (omega arith) (p .3) (quotient (a .s) (a .left) (a .lo / 2 ^ 27) (p .0) (p .3 .rest) (omega arith)) (c .if1 .left)
 
 returns : tie.Need-returns
 returns c =
     let a = c .before .args in
     let p = c .before .pre in
-    digits-right (a .m) (a .s) (a .left) (a .left * 2 ^ 27 / (a .s * 2)) (a .left * 2 ^ 27 % (a .s * 2)) (p .0) (p .2) (quotient (a .s) (a .left) (p .0) (p .2 .rest)) (c .if1 .taken)
+    let n = a .left * 2 ^ 27 + a .lo / 2 ^ 27 in
+    subst (λ (y : ℕ). IsWholeRoot (a .m * 2 ^ 54 + y) (a .s * 2 ^ 27 + n / (a .s * 2)) (n % (a .s * 2) * 2 ^ 27 + a .lo % 2 ^ 27 - n / (a .s * 2) * (n / (a .s * 2)))) (halves-joined (a .lo))
+    (digits-right (a .m) (a .s) (a .left) (a .lo / 2 ^ 27) (a .lo % 2 ^ 27) (n / (a .s * 2)) (n % (a .s * 2)) (p .0) (omega arith) (p .3) (quotient (a .s) (a .left) (a .lo / 2 ^ 27) (p .0) (p .3 .rest) (omega arith)) (c .if1 .taken))
 
 returns-2 : tie.Need-returns-2
 returns-2 c =
     let a = c .before .args in
     let p = c .before .pre in
-    digits-one-less (a .m) (a .s) (a .left) (a .left * 2 ^ 27 / (a .s * 2)) (a .left * 2 ^ 27 % (a .s * 2)) (p .0) (p .2) (quotient (a .s) (a .left) (p .0) (p .2 .rest)) (c .if1 .left)
+    let n = a .left * 2 ^ 27 + a .lo / 2 ^ 27 in
+    let d = n / (a .s * 2) in
+    subst (λ (y : ℕ). IsWholeRoot (a .m * 2 ^ 54 + y) (a .s * 2 ^ 27 + d - 1) (n % (a .s * 2) * 2 ^ 27 + a .lo % 2 ^ 27 + ((a .s * 2 ^ 27 + d) * 2 - 1) - d * d)) (halves-joined (a .lo))
+    (digits-one-less (a .m) (a .s) (a .left) (a .lo / 2 ^ 27) (a .lo % 2 ^ 27) d (n % (a .s * 2)) (p .0) (omega arith) (p .3) (quotient (a .s) (a .left) (a .lo / 2 ^ 27) (p .0) (p .3 .rest) (omega arith)) (c .if1 .left))
 
 pub widen-spec : {M : Type 1} → statement M
-widen-spec =
-    tie.close
-    (tie.spec
-    mul-n
-    mul-d
-    div-d
-    mul-u
-    rem-u
-    mul-u-2
-    mul-t
-    add-t
-    mul-v
-    sub-t14
-    mul-t15
-    sub-t16
-    add-t17
-    sub-t18
-    returns
-    returns-2)
+widen-spec = tie.close (tie.spec mul-n add-n mul-d div-d mul-u rem-u mul-u-2 add-u mul-t add-t mul-v sub-t17 mul-t18 sub-t19 add-t20 sub-t21 returns returns-2)
