@@ -5,11 +5,11 @@ use mathlib.Core.Bool.{Bool, true, false, not, cond}
 use Prim.Native.Nat.{ℕ, zero, suc, _+_, _*_, _/_, _%_, _^_, _≤_, _<_}
 use native.Mathlib.Nat.{eq-or-lt-of-le, mul-pos, le-of-suc-le-suc}
 use native.Mathlib.Omega.{arith}
-use lib.Dec.{T, leb, ltb, eqb, le→leb, nltb→le}
+use lib.Dec.{T, leb, eqb, le→leb}
 use lib.Pow.{pow-pos}
 use lib.Ieee.{Float, nan, inf, fin, binary64, up, down, ofFields, ofBits, isNan, lt, ne, fits, toBits}
 use lib.Ieee.Fits.{down-pos}
-use lib.Ieee.Bits.{is-true, nanBits-is, nanBits-above, ofBits-toBits, toBits-lt}
+use lib.Ieee.Bits.{is-true, ofBits-toBits, toBits-lt}
 use lib.Ieee.Exact.{HasValue}
 use lib.Ieee.Compare.{differs-from-itself}
 use Rattle.rounding.specs.Root.{root}
@@ -18,7 +18,7 @@ use Rattle.scope.specs.Distance.{noRoot, rootAnswer}
 use Rattle.root.specs.Parts.{infinity, patternUnits}
 use Rattle.root.proofs.Callers.{answer-refused, answer-given, no-root-by-sign}
 use Rattle.root.proofs.ScaleLaws.{units-pos}
-use Rattle.root.proofs.PatternLaws.{pattern-fields, subnormal-field, normal-field, pattern-value}
+use Rattle.root.proofs.PatternLaws.{pattern-fields, subnormal-field, normal-field, pattern-value, number-at-most}
 
 -- ---- NaN
 pub when-nan : (x : Float) → ne x x ≡ true → refused 12 ≡ rootAnswer x
@@ -81,10 +81,7 @@ minus-zero-given = answer-given _ refl
 
 -- between the infinity and -0 there are only NaNs
 only-infinity : (b : ℕ) → infinity ≤ b → b < 2 ^ 63 → T (not (isNan (ofBits binary64 b))) → b ≡ infinity
-only-infinity b l h n =
-    let t : T (not (ltb infinity (b % 2 ^ 63))) = subst (λ (z : Bool). T (not z)) (sym (nanBits-is binary64 b) ∙ nanBits-above binary64 b) n in
-    let k : b % 2 ^ 63 ≤ infinity = nltb→le infinity (b % 2 ^ 63) t in
-    omega arith
+only-infinity b l h n = let k = number-at-most b n in omega arith
 
 pattern-top : (b : ℕ) → infinity ≤ b → b ≤ 2 ^ 63 → T (not (isNan (ofBits binary64 b))) → rootAnswer (ofBits binary64 b) ≡ given (ofBits binary64 b)
 pattern-top b l h n = elim (eq-or-lt-of-le h) [

@@ -1,10 +1,10 @@
 -- What the code of the root puts together is the f64 nearest the root. With M = m * 2 ^ 54 and q the whole part of M's root, 4 * n is M up to a power of 4, where
 -- n is the value in units of 2 ^ -2148. There is no tie: a whole root that is odd has an odd square, and M is even.
-use mathlib.Core.Path.{_≡_, refl, sym, ap, _∙_, subst}
+use mathlib.Core.Path.{_≡_, refl, sym, ap, _∙_}
 use mathlib.Core.Logic.{inr}
 use mathlib.Core.Bool.{false, not}
 use Prim.Native.Nat.{ℕ, _+_, _*_, _/_, _%_, _^_, _≤_, _<_}
-use native.Mathlib.Nat.{mul-pos, mul-le-mul-right, mul-lt-mul-of-pos-right, le-of-mul-le-mul-right}
+use native.Mathlib.Nat.{mul-pos, le-of-mul-le-mul-right, le-of-eq}
 use native.Mathlib.Omega.{arith}
 use lib.Dec.{T}
 use lib.Pow.{pow-add, pow-pos}
@@ -17,7 +17,7 @@ use Rattle.root.specs.Parts.{infinity, patternUnits, one, IsSplit, IsWho
 use Rattle.root.specs.Sums.{IsTie, IsNearestRootOf}
 use Rattle.root.proofs.WholeLaws.{root-lt, le-root}
 use Rattle.root.proofs.PatternLaws.{pattern-value, has-value-fin, no-nan-up-to-infinity}
-use Rattle.root.proofs.TieLaws.{HalfWays, rounded-half-ways}
+use Rattle.root.proofs.TieLaws.{HalfWays, root-from, root-to, rounded-half-ways}
 use Rattle.root.proofs.HalfWayLaws.{between-is-nearest, quarter-le, quarter-gt}
 
 -- of an even number: a whole root with nothing left over is even
@@ -46,20 +46,17 @@ module _ (b m h q left : ℕ) (split : IsSplit b m h) (w : IsWholeRoot (m * 2 ^ 
       regroup : (M P Q n : ℕ) → Q ≡ P * 2 → M * (P * P) ≡ n → M * (Q * Q) ≡ 4 * n
       regroup M P Q n e f = omega (arith, ap (λ (x : ℕ). M * (x * x)) e)
 
-  from : q * Q * (q * Q) ≤ 4 * n
-  from = subst (λ (y : ℕ). q * Q * (q * Q) ≤ y) four-times (spread q (m * 2 ^ 54) Q (let s = w .square in omega arith))
-    where
-      spread : (q M Q : ℕ) → q * q ≤ M → q * Q * (q * Q) ≤ M * (Q * Q)
-      spread q M Q l = omega (arith, mul-le-mul-right (Q * Q) l)
-
   squares-pos : 0 < Q * Q
   squares-pos = mul-pos (pow-pos (h + 1)) (pow-pos (h + 1))
 
+  whole-part : 4 * n < (m * 2 ^ 54 + 1) * (Q * Q)
+  whole-part = omega (arith, four-times, squares-pos)
+
+  from : q * Q * (q * Q) ≤ 4 * n
+  from = root-from (4 * n) Q (m * 2 ^ 54) q left (pow-pos (h + 1)) (le-of-eq four-times) whole-part w
+
   to : 4 * n < (q + 1) * Q * ((q + 1) * Q)
-  to = subst (λ (y : ℕ). y < (q + 1) * Q * ((q + 1) * Q)) four-times (spread (q + 1) (m * 2 ^ 54) Q squares-pos (let s = w .square in let t = w .rest in omega arith))
-    where
-      spread : (k M Q : ℕ) → 0 < Q * Q → M < k * k → M * (Q * Q) < k * Q * (k * Q)
-      spread k M Q p l = omega (arith, mul-lt-mul-of-pos-right l p)
+  to = root-to (4 * n) Q (m * 2 ^ 54) q left (pow-pos (h + 1)) (le-of-eq four-times) whole-part w
 
   no-tie : IsTie q left 0 0 → ⊥
   no-tie t = even-has-no-odd-root m q (let s = w .square in let z = t .0 in omega arith) (t .1)

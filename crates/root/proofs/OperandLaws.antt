@@ -5,19 +5,19 @@ use mathlib.Core.Bool.{Bool, true, false, not, false≢true}
 use Prim.Native.Nat.{ℕ, _+_, _*_, _/_, _%_, _^_, _≤_, _<_}
 use native.Mathlib.Nat.{add-comm, eq-or-lt-of-le}
 use native.Mathlib.Omega.{arith}
-use lib.Dec.{T, leb, nltb→le}
+use lib.Dec.{T, leb}
 use lib.Ieee.{Float, nan, inf, fin, binary64, ofFields, ofBits, toBits, isNan, fits, eq, ne, neg}
-use lib.Ieee.Bits.{nanBits-is, nanBits-above, ofBits-toBits}
+use lib.Ieee.Bits.{ofBits-toBits}
 use lib.Ieee.Compare.{differs-from-itself}
 use lib.Ieee.Exact.{HasValue}
 use lib.Ieee.Scale.{finite}
 use Rattle.rounding.specs.Root.{nearestRoot, hypot}
 use Rattle.rounding.specs.Value.{mag}
-use Rattle.rounding.proofs.Value.{mag-of}
+use Rattle.rounding.proofs.Value.{mag-of, fin-finite}
 use Rattle.rounding.proofs.root.Hypot.{special-hypots, hypot-is-nearest}
 use Rattle.root.specs.Parts.{infinity, patternUnits}
 use Rattle.root.specs.Sums.{IsNearestRootOf}
-use Rattle.root.proofs.PatternLaws.{pattern-fields, signed-value}
+use Rattle.root.proofs.PatternLaws.{pattern-fields, signed-value, has-value-fin, number-at-most}
 use Rattle.root.proofs.HalfWayLaws.{infinity-is}
 
 -- ---- beside a NaN
@@ -67,20 +67,13 @@ module _ (x : Float) (f : fits binary64 x ≡ true) (number : T (not (isNan x)))
   back = ofBits-toBits binary64 x (subst T (sym f) tt)
 
   size-most : sizeOf x ≤ infinity
-  size-most =
-      let b = toBits binary64 x in
-      nltb→le infinity (b % 2 ^ 63) (subst (λ (z : Bool). T (not z)) (sym (nanBits-is binary64 b) ∙ nanBits-above binary64 b) (subst (λ (z : Float). T (not (isNan z))) (sym back) number))
+  size-most = number-at-most (toBits binary64 x) (subst (λ (z : Float). T (not (isNan z))) (sym back) number)
 
   size-finite : sizeOf x < infinity → T (finite x) × (mag binary64 x ≡ patternUnits (sizeOf x))
   size-finite h =
       let b = toBits binary64 x in
       let v = subst (λ (z : Float). HasValue z (leb (2 ^ 63) b) (patternUnits (sizeOf x)) (2 ^ 1074)) back (signed-value b h) in
-      (has-value-finite x (leb (2 ^ 63) b) (patternUnits (sizeOf x)) v, mag-of binary64 x (leb (2 ^ 63) b) (patternUnits (sizeOf x)) v)
-    where
-      has-value-finite : (x : Float) (s : Bool) (a : ℕ) → HasValue x s a (2 ^ 1074) → T (finite x)
-      has-value-finite nan s a v = absurd v
-      has-value-finite (inf t) s a v = absurd v
-      has-value-finite (fin t m e) s a v = tt
+      (fin-finite binary64 x (has-value-fin x (leb (2 ^ 63) b) (patternUnits (sizeOf x)) (2 ^ 1074) v (subst T (sym f) tt)), mag-of binary64 x (leb (2 ^ 63) b) (patternUnits (sizeOf x)) v)
 
   size-infinite : sizeOf x ≡ infinity → (s : Bool) × (x ≡ inf s)
   size-infinite h =

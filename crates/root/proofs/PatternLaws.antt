@@ -1,15 +1,15 @@
 -- The value of a bit pattern by its two fields, and the value of a pattern put together as a sum of a field and digits, with a carry or without.
-use mathlib.Core.Path.{_≡_, refl, sym, subst, subst₂}
+use mathlib.Core.Path.{_≡_, refl, sym, subst, subst₂, _∙_}
 use mathlib.Core.Logic.{inl, inr}
 use mathlib.Core.Bool.{Bool, true, false, not, cond}
 use Prim.Native.Nat.{ℕ, suc, _+_, _-_, _*_, _/_, _%_, _^_, _≤_, _<_}
 use native.Mathlib.Nat.{mul-one, mod-eq-of-lt}
 use native.Mathlib.Omega.{arith}
-use lib.Dec.{T, leb, eqb, eqb→eq}
+use lib.Dec.{T, leb, eqb, eqb→eq, nltb→le}
 use lib.Arith.{lt→nleb, le→nltb}
 use lib.Pow as pow
-use lib.Ieee.{Float, nan, inf, fin, binary64, odd, ofFields, ofBits, nanBits, fits}
-use lib.Ieee.Bits.{is-false, nanBits-above}
+use lib.Ieee.{Float, nan, inf, fin, binary64, odd, ofFields, ofBits, isNan, nanBits, fits}
+use lib.Ieee.Bits.{is-false, nanBits-is, nanBits-above}
 use lib.Ieee.Exact.{HasValue, odd-sign}
 use Rattle.algebra.proofs.Size.{either}
 use Rattle.rounding.specs.Value.{Fin}
@@ -61,6 +61,10 @@ joined-value i s hi lo h = subst (λ (u : ℕ). HasValue (ofBits binary64 (i * 2
 -- ---- a pattern up to that of infinity is no NaN
 pub no-nan-up-to-infinity : (r : ℕ) → r ≤ infinity → T (not (nanBits binary64 r))
 no-nan-up-to-infinity r h = subst (λ (z : Bool). T (not z)) (sym (nanBits-above binary64 r)) (le→nltb infinity (r % 2 ^ 63) (omega arith))
+
+-- ---- and no number's pattern, without its sign, is above it
+pub number-at-most : (b : ℕ) → T (not (isNan (ofBits binary64 b))) → b % 2 ^ 63 ≤ infinity
+number-at-most b n = nltb→le infinity (b % 2 ^ 63) (subst (λ (z : Bool). T (not z)) (sym (nanBits-is binary64 b) ∙ nanBits-above binary64 b) n)
 
 -- ---- what has a value is finite
 pub has-value-fin : (x : Float) (s : Bool) (a c : ℕ) → HasValue x s a c → T (fits binary64 x) → Fin binary64 x

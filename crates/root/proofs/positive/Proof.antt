@@ -1,6 +1,11 @@
 -- `root::positive` meets its contract.
-use borrow.Author.Needs.{needs}
+use mathlib.Core.Path.{_∙_, ap, subst}
+use mathlib.Core.Bool.{not}
+use Prim.Native.Nat.{ℕ}
 use native.Mathlib.Omega.{arith}
+use lib.Dec.{T}
+use lib.Ieee.{binary64, nanBits, ofBits}
+use borrow.Author.Needs.{needs}
 use Rattle.root.proofs.WholeLaws.{nothing-behind}
 use Rattle.root.proofs.NearestLaws.{root-fits, result-no-nan, result-is-root}
 use Rattle.root.proofs.positive.Statement.{statement}
@@ -32,14 +37,16 @@ float-from-bits-result : tie.Need-float-from-bits-result
 float-from-bits-result c =
     let p = c .before .before .before .split in
     let w = c .before .before .root in
-    result-no-nan (c .before .before .before .before .args .b) (p .result .digits) (p .result .half) (w .result .root) (w .result .left) (p .ensures) (nothing-behind _ _ _ (w .ensures))
+    subst (λ (r : ℕ). T (not (nanBits binary64 r))) (omega arith)
+    (result-no-nan (c .before .before .before .before .args .b) (p .result .digits) (p .result .half) (w .result .root) (w .result .left) (p .ensures) (nothing-behind _ _ _ (w .ensures)))
 
 returns : tie.Need-returns
 returns c =
     let a = c .before .before .before .before in
     let p = c .before .before .before .split in
     let w = c .before .before .root in
-    result-is-root (a .args .b) (p .result .digits) (p .result .half) (w .result .root) (w .result .left) (p .ensures) (nothing-behind _ _ _ (w .ensures)) (a .pre .1)
+    ap (ofBits binary64) (omega arith)
+    ∙ result-is-root (a .args .b) (p .result .digits) (p .result .half) (w .result .root) (w .result .left) (p .ensures) (nothing-behind _ _ _ (w .ensures)) (a .pre .1)
 
 pub positive-spec : {M : Type 1} → statement M
 positive-spec =

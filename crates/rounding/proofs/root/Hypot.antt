@@ -1,19 +1,20 @@
 -- The hypot of two floats: its special cases, and of two finite floats the laws of the nearest root of the exact sum of their squares, in units.
 -- No sign and no order of the operands has a part in it: only their sizes are squared, and a sum does not depend on its order.
-use mathlib.Core.Path.{_≡_, refl, ap, subst}
+use mathlib.Core.Path.{_≡_, refl, ap, _∙_, subst}
 use mathlib.Core.Bool.{Bool, false}
-use Prim.Native.Nat.{ℕ, _+_, _*_, _^_, _≤_, _<_}
+use Prim.Native.Nat.{ℕ, suc, _+_, _*_, _^_, _≤_, _<_}
 use native.Mathlib.Nat.{add-comm}
 use native.Mathlib.Omega.{arith}
 use lib.IntN.{ℤ}
 use lib.Dec.{T}
-use lib.Ieee.{Float, nan, inf, fin, Format, prec, low, neg}
+use lib.Ieee.{Float, nan, inf, fin, Format, prec, emax, low, neg}
 use lib.Ieee.Scale.{finite}
 use Rattle.rounding.specs.Root.{nearestRoot, hypot}
 use Rattle.rounding.specs.Value.{mag, negative}
 use Rattle.rounding.proofs.Rounded.{sign-kept}
 use Rattle.rounding.proofs.root.Error.{nearest-root-le}
-use Rattle.rounding.proofs.root.Units.{IsUnitsRoot, units-root, cancel-ge, quarter-ge}
+use Rattle.rounding.proofs.root.Overflow.{pastLargest}
+use Rattle.rounding.proofs.root.Units.{IsUnitsRoot, units-root, units-root-overflow, units-root-finite, cancel-ge, quarter-ge}
 
 -- ---- the special cases: an infinity beside anything, and a NaN beside anything else
 pub record SpecialHypots (f : Format) : Type 0 where
@@ -81,6 +82,14 @@ hypot-negated f (inf s) y = refl
 hypot-negated f (fin s m e) nan = refl
 hypot-negated f (fin s m e) (inf t) = refl
 hypot-negated f (fin s m e) (fin t n d) = refl
+
+-- ---- of two finite floats: half-way past the largest value decides whether it is finite
+module _ (f : Format) (x y : Float) (i : ℕ) (top : prec f + i ≡ low f + suc (emax f)) (t : T (finite x)) (u : T (finite y)) where
+  pub hypot-infinite : pastLargest f i * pastLargest f i ≤ 4 * hypotSquare f x y → hypot f x y ≡ inf false
+  hypot-infinite h = hypot-is-nearest f x y t u ∙ units-root-overflow f (hypotSquare f x y) i top h
+
+  pub hypot-finite : 4 * hypotSquare f x y < pastLargest f i * pastLargest f i → T (finite (hypot f x y))
+  hypot-finite h = rw (hypot-is-nearest f x y t u) (units-root-finite f (hypotSquare f x y) i top h)
 
 -- ---- where it is finite: so are the operands, and it is nearest, and near
 pub finite-hypot : (f : Format) (x y : Float) → T (finite (hypot f x y)) → T (finite x) × T (finite y)

@@ -1,22 +1,34 @@
--- From half-way between the largest value of the format and the next, which it does not hold, `nearestRoot` is infinite.
+-- From half-way between the largest value of the format and the next, which it does not hold, `nearestRoot` is infinite; below that point it is finite.
 use mathlib.Core.Path.{_≡_, refl, sym, ap, _∙_, subst}
 use mathlib.Core.Bool.{Bool, true, false, cond}
 use Prim.Native.Nat.{ℕ, suc, _+_, _-_, _*_, _%_, _^_, _≤_, _<_}
-use native.Mathlib.Nat.{mul-pos, mul-le-mul-right, le-antisymm, pow-succ', not-le-of-lt, le-of-eq, one-mul}
+use native.Mathlib.Nat.{mul-pos, mul-le-mul-right, le-antisymm, pow-succ', not-le-of-lt, lt-of-not-le, le-of-eq, one-mul}
 use native.Mathlib.Omega.{arith}
 use lib.Dec.{T, ltb, ltb→lt}
 use lib.Pow.{pow-pos, pow-add, pow-mono, pow-lt}
 use lib.Ieee.{Float, nan, inf, fin, Format, prec, emax, low, odd, units, round, le}
 use lib.Ieee.Fits.{two, two-le-pos, round-is}
 use lib.Ieee.Order.{drop, kept, round-mono}
+use lib.Ieee.Scale.{finite}
 use Rattle.rounding.specs.Root.{nearestRoot}
 use Rattle.rounding.specs.NearestRoot.{squareOf, squareOfRoot}
 use Rattle.rounding.proofs.Closest.{Half}
-use Rattle.rounding.proofs.Round.{rnd, drop-le, double-pow}
-use Rattle.rounding.proofs.root.Nearest.{halvesOf, scaleOf, scale-pos, nearest-root-is, scaled-le-fraction}
+use Rattle.rounding.proofs.Round.{rnd, rnd-near, round-units, drop-le, double-pow}
+use Rattle.rounding.proofs.Value.{fin-of, fin-finite}
+use Rattle.rounding.proofs.root.Nearest.{halvesOf, scaleOf, scale-pos, nearest-root-is, scaled-le-fraction, square-le-root}
 use Rattle.rounding.proofs.root.Unique.{drop-ge, rnd-only}
 
--- only an infinity is at least an infinity
+-- That point, in half units: the largest value is (2 ^ prec - 1) * 2 ^ i units, and the next would be 2 ^ prec * 2 ^ i.
+abbrev pub pastLargest : Format → ℕ → ℕ
+pastLargest f i = 2 * 2 ^ (prec f + i) - 2 ^ i
+
+later : (p i : ℕ) → i ≤ p + i
+later p i = omega arith
+
+back : (X B : ℕ) → B ≤ X → 2 * X - B + B ≡ 2 * X
+back X B l = omega arith
+
+-- ---- from there on: only an infinity is at least an infinity
 at-least-infinite : (z : Float) → T (le (inf false) z) → z ≡ inf false
 unfolding le
 at-least-infinite nan t = absurd t
@@ -45,14 +57,8 @@ halfway-up p i u P U =
     (half X (2 ^ p) (2 ^ i) u (pow-add 2 p i) l)
     (λ _. even p P)
   where
-    later : (p i : ℕ) → i ≤ p + i
-    later p i = omega arith
-
     one-more : (p i : ℕ) → 0 < p → p + i ≡ suc (p - 1 + i)
     one-more p i P = omega arith
-
-    back : (X B : ℕ) → B ≤ X → 2 * X - B + B ≡ 2 * X
-    back X B l = omega arith
 
     short : (X B u : ℕ) → 0 < B → B ≤ X → 0 < u → (2 * X - B) * u < X * (2 * u)
     short X B u b l U = omega (arith, ap (λ (y : ℕ). y * u) (back X B l), mul-pos b U)
@@ -66,9 +72,9 @@ halfway-up p i u P U =
     even : (p : ℕ) → 0 < p → 2 ^ p % 2 ≡ 0
     even p P = let d = double-pow p P in omega arith
 
-pub nearest-root-overflow : (f : Format) (n k i : ℕ) → prec f + i ≡ low f + suc (emax f) → squareOf k (2 * 2 ^ (prec f + i) - 2 ^ i) ≤ squareOfRoot f n → nearestRoot f n k ≡ inf false
+pub nearest-root-overflow : (f : Format) (n k i : ℕ) → prec f + i ≡ low f + suc (emax f) → squareOf k (pastLargest f i) ≤ squareOfRoot f n → nearestRoot f n k ≡ inf false
 nearest-root-overflow f n k i top h =
-    let c = 2 * 2 ^ (prec f + i) - 2 ^ i in
+    let c = pastLargest f i in
     let U = pow-pos (low f) in
     let den = 2 * 2 ^ low f in
     let threshold : round f false c den ≡ inf false =
@@ -78,3 +84,22 @@ nearest-root-overflow f n k i top h =
   where
     same : (c s h u : ℕ) → c * s ≤ 2 * (h * u) → c * s ≤ h * (2 * u)
     same c s h u l = omega arith
+
+-- ---- below: rounding adds half of a last place at most, and so less than what is missing
+pub nearest-root-finite : (f : Format) (n k i : ℕ) → prec f + i ≡ low f + suc (emax f) → squareOfRoot f n < squareOf k (pastLargest f i) → T (finite (nearestRoot f n k))
+nearest-root-finite f n k i top h =
+    let X = 2 ^ (prec f + i) in
+    let num = halvesOf f n k * 2 ^ low f in
+    let den = scaleOf f k in
+    let l : 2 ^ i ≤ X = pow-mono (later (prec f) i) in
+    let g : 2 * num < pastLargest f i * den = lt-of-not-le (λ (g : pastLargest f i * den ≤ 2 * num). not-le-of-lt h (square-le-root f n k (pastLargest f i) g)) in
+    let near = rnd-near (prec f) num den i (two-le-pos (prec f) (two f)) (scale-pos f k) (within X (2 ^ i) den num l g) in
+    let small = fewer (rnd (prec f) num den) X (2 ^ i) den num l g (near .1 .0) in
+    let v = round-units f false (halvesOf f n k) den (subst (λ (e : ℕ). rnd (prec f) num den < 2 ^ e) top small) in
+    rw (nearest-root-is f n k) (fin-finite f (round f false (halvesOf f n k) den) (fin-of f false false (halvesOf f n k) den (rnd (prec f) num den) (2 ^ low f) v))
+  where
+    within : (X B d n : ℕ) → B ≤ X → 2 * n < (2 * X - B) * d → n ≤ X * d
+    within X B d n l g = omega (arith, ap (λ (y : ℕ). y * d) (back X B l))
+
+    fewer : (r X B d n : ℕ) → B ≤ X → 2 * n < (2 * X - B) * d → 2 * (r * d) ≤ 2 * n + B * d → r < X
+    fewer r X B d n l g h = lt-of-not-le (λ (m : X ≤ r). absurd (omega (arith, ap (λ (y : ℕ). y * d) (back X B l), mul-le-mul-right d m)))

@@ -15,7 +15,7 @@ use Rattle.rounding.specs.Value.{mag, negative, Fin, lastDigit}
 use Rattle.rounding.proofs.root.Nearest.{nearest-root}
 use Rattle.rounding.proofs.root.Error.{nearest-root-near}
 use Rattle.rounding.proofs.root.Unique.{nearest-root-unique}
-use Rattle.rounding.proofs.root.Overflow.{nearest-root-overflow}
+use Rattle.rounding.proofs.root.Overflow.{pastLargest, nearest-root-overflow, nearest-root-finite}
 
 -- ---- at the scale of one unit the squares cancel: c half units compare with the root of n units as c * c with 4 * n
 abbrev unitSquare : Format → ℕ
@@ -117,6 +117,9 @@ units-root-unique f n z q i c h s size lo hi e l g tie-below tie-above =
       even-above = λ (t : squareOfRoot f n ≡ squareOf (low f) d). tie-above (le-antisymm g (cancel-le f n d (le-of-eq (sym t))));
     })
 
--- ---- and from half-way past the largest value on it is infinite
-pub units-root-overflow : (f : Format) (n i : ℕ) → prec f + i ≡ low f + suc (emax f) → (2 * 2 ^ (prec f + i) - 2 ^ i) * (2 * 2 ^ (prec f + i) - 2 ^ i) ≤ 4 * n → nearestRoot f n (low f) ≡ inf false
-units-root-overflow f n i top h = nearest-root-overflow f n (low f) i top (spread-le f n (2 * 2 ^ (prec f + i) - 2 ^ i) h)
+-- ---- half-way past the largest value decides whether it is finite
+pub units-root-overflow : (f : Format) (n i : ℕ) → prec f + i ≡ low f + suc (emax f) → pastLargest f i * pastLargest f i ≤ 4 * n → nearestRoot f n (low f) ≡ inf false
+units-root-overflow f n i top h = nearest-root-overflow f n (low f) i top (spread-le f n (pastLargest f i) h)
+
+pub units-root-finite : (f : Format) (n i : ℕ) → prec f + i ≡ low f + suc (emax f) → 4 * n < pastLargest f i * pastLargest f i → T (finite (nearestRoot f n (low f)))
+units-root-finite f n i top h = nearest-root-finite f n (low f) i top (spread-lt f n (pastLargest f i) h)

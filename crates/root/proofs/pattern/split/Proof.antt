@@ -1,4 +1,5 @@
 -- `root::pattern::split` meets its contract: an odd exponent leaves one digit more.
+use native.Mathlib.Omega.{arith}
 use borrow.Author.Needs.{needs}
 use Rattle.root.proofs.ScaleLaws.{even-split, odd-split}
 use Rattle.root.proofs.pattern.split.Statement.{statement}
@@ -17,7 +18,10 @@ returns : tie.Need-returns
 returns c = let n = c .before .before .before .normal in even-split (c .before .before .before .before .args .b) (n .result .digits) (n .result .exponent) (n .ensures) (c .if1 .taken)
 
 returns-2 : tie.Need-returns-2
-returns-2 c = let n = c .before .before .before .before .normal in odd-split (c .before .before .before .before .before .args .b) (n .result .digits) (n .result .exponent) (n .ensures) (c .before .if1 .left)
+returns-2 c =
+    let n = c .before .before .before .before .normal in
+    let s = odd-split (c .before .before .before .before .before .args .b) (n .result .digits) (n .result .exponent) (n .ensures) (c .before .if1 .left) in
+    omega arith
 
 pub split-spec : {M : Type 1} → statement M
 split-spec = tie.close (tie.spec normal-requires add-half mul-t7 returns returns-2)

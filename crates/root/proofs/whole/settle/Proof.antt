@@ -51,7 +51,11 @@ loop2-less : tie.Need-loop2-less Inv-loop μ-loop Inv-loop2 μ-loop2
 loop2-less c = omega arith
 
 loop2-again : tie.Need-loop2-again Inv-loop μ-loop Inv-loop2 μ-loop2
-loop2-again c = (c .loop2-test .taken, root-below (c .before .before .before .before .args .m) (c .before .loop2 .q + 1) (c .before .before .before .before .pre .0) (c .loop2-test .taken))
+loop2-again c =
+    let a = c .before .before .before .before in
+    let q = c .before .loop2 .q + 1 in
+    let h : q * q ≤ a .args .m = omega (arith, c .loop2-test .taken) in
+    (h, root-below (a .args .m) q (a .pre .0) h)
 
 mul-t10 : tie.Need-mul-t10 Inv-loop μ-loop Inv-loop2 μ-loop2
 mul-t10 c = omega (arith, square-fits (c .before .loop2 .q) (omega arith))
@@ -60,7 +64,7 @@ sub-t11 : tie.Need-sub-t11 Inv-loop μ-loop Inv-loop2 μ-loop2
 sub-t11 c = c .before .loop2 .inv .0
 
 returns : tie.Need-returns Inv-loop μ-loop Inv-loop2 μ-loop2
-returns c = settled (c .before .before .before .before .args .m) (c .before .loop2 .q) (c .before .loop2 .inv .0) (c .loop2-test .left)
+returns c = settled (c .before .before .before .before .args .m) (c .before .loop2 .q) (c .before .loop2 .inv .0) (omega (arith, c .loop2-test .left))
 
 pub settle-spec : {M : Type 1} → statement M
 settle-spec =

@@ -1,9 +1,7 @@
 -- `root::whole::widen` meets its contract, by the laws of the quotient and the remainder.
-use mathlib.Core.Path.{subst}
-use Prim.Native.Nat.{ℕ, _+_, _-_, _*_, _/_, _%_, _^_}
+use Prim.Native.Nat.{_+_, _*_, _/_, _%_, _^_}
 use native.Mathlib.Omega.{arith}
 use borrow.Author.Needs.{needs}
-use Rattle.root.specs.Parts.{IsWholeRoot}
 use Rattle.root.proofs.WholeLaws.{quotient, enough-left, digits-right, digits-one-less, halves-joined}
 use Rattle.root.proofs.whole.widen.Statement.{statement}
 use Rattle.root.proofs.whole.widen.Tie as tie
@@ -65,17 +63,16 @@ returns c =
     let a = c .before .args in
     let p = c .before .pre in
     let n = a .left * 2 ^ 27 + a .lo / 2 ^ 27 in
-    subst (λ (y : ℕ). IsWholeRoot (a .m * 2 ^ 54 + y) (a .s * 2 ^ 27 + n / (a .s * 2)) (n % (a .s * 2) * 2 ^ 27 + a .lo % 2 ^ 27 - n / (a .s * 2) * (n / (a .s * 2)))) (halves-joined (a .lo))
-    (digits-right (a .m) (a .s) (a .left) (a .lo / 2 ^ 27) (a .lo % 2 ^ 27) (n / (a .s * 2)) (n % (a .s * 2)) (p .0) (omega arith) (p .3) (quotient (a .s) (a .left) (a .lo / 2 ^ 27) (p .0) (p .3 .rest) (omega arith)) (c .if1 .taken))
+    let w = digits-right (a .m) (a .s) (a .left) (a .lo / 2 ^ 27) (a .lo % 2 ^ 27) (n / (a .s * 2)) (n % (a .s * 2)) (p .0) (omega arith) (p .3) (quotient (a .s) (a .left) (a .lo / 2 ^ 27) (p .0) (p .3 .rest) (omega arith)) (c .if1 .taken) in
+    omega (arith, halves-joined (a .lo))
 
 returns-2 : tie.Need-returns-2
 returns-2 c =
     let a = c .before .args in
     let p = c .before .pre in
     let n = a .left * 2 ^ 27 + a .lo / 2 ^ 27 in
-    let d = n / (a .s * 2) in
-    subst (λ (y : ℕ). IsWholeRoot (a .m * 2 ^ 54 + y) (a .s * 2 ^ 27 + d - 1) (n % (a .s * 2) * 2 ^ 27 + a .lo % 2 ^ 27 + ((a .s * 2 ^ 27 + d) * 2 - 1) - d * d)) (halves-joined (a .lo))
-    (digits-one-less (a .m) (a .s) (a .left) (a .lo / 2 ^ 27) (a .lo % 2 ^ 27) d (n % (a .s * 2)) (p .0) (omega arith) (p .3) (quotient (a .s) (a .left) (a .lo / 2 ^ 27) (p .0) (p .3 .rest) (omega arith)) (c .if1 .left))
+    let w = digits-one-less (a .m) (a .s) (a .left) (a .lo / 2 ^ 27) (a .lo % 2 ^ 27) (n / (a .s * 2)) (n % (a .s * 2)) (p .0) (omega arith) (p .3) (quotient (a .s) (a .left) (a .lo / 2 ^ 27) (p .0) (p .3 .rest) (omega arith)) (c .if1 .left) in
+    omega (arith, halves-joined (a .lo))
 
 pub widen-spec : {M : Type 1} → statement M
 widen-spec = tie.close (tie.spec mul-n add-n mul-d div-d mul-u rem-u mul-u-2 add-u mul-t add-t mul-v sub-t17 mul-t18 sub-t19 add-t20 sub-t21 returns returns-2)
