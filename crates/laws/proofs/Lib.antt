@@ -22,6 +22,7 @@ pub mod CardTexts
 pub mod Accepted
 pub mod Inks
 pub mod MaskBits
+pub mod FirstTwo
 pub mod PackedRows
 pub mod Bytes
 pub mod Fields

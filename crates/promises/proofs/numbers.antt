@@ -5,3 +5,4 @@ pub mod SmallFactor
 pub mod NeverPast
 pub mod Bounded
 pub mod InRange
+pub mod RangeOf

@@ -1,4 +1,5 @@
--- What the gauge leaves of accepted circles: every centre within 2^27, every radius as it was, and the centres of one cluster at most (23/4) 2^20 + 2^-16 apart on each axis.
+-- What the gauge leaves of accepted circles: every centre within 2^27, every radius as it was, the centres of one cluster at most (23/4) 2^20 + 2^-16 apart on
+-- each axis, and every cluster of two or more hung.
 use mathlib.Core.Path.{_≡_, refl, _∙_}
 use mathlib.Core.List.{List}
 use Prim.Native.Nat.{ℕ, _+_, _*_, _≤_, _<_}
@@ -12,12 +13,16 @@ use Rattle.rounding.specs.Scale.{pow2}
 use Rattle.shapes.specs.declared.circle.Circle.{Circle}
 use Rattle.scope.specs.Links.{Region, circle}
 use Rattle.scope.specs.Offset.{offset}
-use Rattle.scope.specs.Gauge.{gauged}
+use Rattle.scope.specs.Gauge.{inCluster, gauged}
 use Rattle.scope.specs.Promises.{units, square}
+use Rattle.laws.proofs.FirstTwo.{firstOf, secondOf}
 use Rattle.promises.proofs.numbers.Ranges.{Sound}
-use Rattle.promises.proofs.gauge.Carried.{Motion, Carried, StandsWithin, centreBound, stands-wider}
+use Rattle.promises.proofs.numbers.RangeOf.{Members}
+use Rattle.promises.proofs.gauge.Carried.{Motion, Carried, StandsWithin, centreBound}
 use Rattle.promises.proofs.gauge.Pairs.{apartX, apartY, spread-kept}
-use Rattle.promises.proofs.gauge.AllClusters.{ClustersCarried, pair-carried, gauged-length, gauge-carries}
+use Rattle.promises.proofs.gauge.AllClusters.{ClustersCarried, pair-carried, gauged-length, gauge-carries, gauge-hangs}
+use Rattle.promises.proofs.gauge.Hangs.{Hung, mirrorSlack}
+use Rattle.promises.proofs.gauge.HungCluster.{gaugeLevel}
 use Rattle.promises.proofs.offset.AfterOffset.{offset-length, offset-keeps-radius, offset-places}
 
 -- ---- two centres within 2^21 + 2^-30 are at most (23/4) 2^20 apart
@@ -67,10 +72,13 @@ module _ (cs : List Circle) (rs : List Region) (sound : (i : ℕ) → i < length
   after-gauge-length = gauged-length numbers before count ∙ offset-length cs rs
 
   pub gauge-carries-clusters : ClustersCarried (pow2 34 + pow2 33) (pow2 87) count numbers before turned
-  gauge-carries-clusters = gauge-carries numbers before (λ i h. stands-wider small (offset-places cs rs sound i (rw (offset-length cs rs) at h))) count
-    where
-      small : centreBound ≤ pow2 82
-      small = unfold pow2 in lit≤ tt
+  gauge-carries-clusters = gauge-carries numbers before (λ i h. offset-places cs rs sound i (rw (offset-length cs rs) at h)) count
+
+  -- the clusters of two or more hang
+  pub gauge-hangs-clusters : (a : ℕ) → a < count → let member = inCluster numbers a in let n = length cs in
+      secondOf member n < n
+      → Hung mirrorSlack gaugeLevel (Members member n) (λ k. units (circle turned k .center .x)) (λ k. units (circle turned k .center .y)) (firstOf member n) (secondOf member n)
+  gauge-hangs-clusters a l = rw (offset-length cs rs) at (gauge-hangs numbers before (λ i h. offset-places cs rs sound i (rw (offset-length cs rs) at h)) count a l)
 
   module _ (inside : (i : ℕ) → i < length cs → getD numbers i 0 < count) where
     pair : (i j : ℕ) → i < length cs → j < length cs → getD numbers i 0 ≡ getD numbers j 0

@@ -4,7 +4,7 @@ use mathlib.Core.List.{List}
 use Prim.Native.Nat.{ℕ, zero, suc, _+_, _≤_, _<_}
 use native.Mathlib.Omega.{arith}
 use native.Mathlib.Decide.{decLt}
-use lib.Dec.{T, leb}
+use lib.Dec.{T, leb, lt→ltb}
 use lib.ListN.{length, getD}
 use lib.Ieee.{Float}
 use Rattle.rounding.specs.Scale.{pow2}
@@ -12,9 +12,14 @@ use Rattle.shapes.specs.declared.circle.Circle.{Circle}
 use Rattle.scope.specs.Runs.{inTurn}
 use Rattle.scope.specs.Links.{circle}
 use Rattle.scope.specs.Gauge.{rotateCluster, inCluster, gauged}
+use Rattle.scope.specs.Promises.{units}
 use Rattle.laws.proofs.Cases.{eqb-iff}
-use Rattle.promises.proofs.gauge.Carried.{Motion, Carried, StandsWithin, Shifted, shiftedBy, shift-carries}
+use Rattle.laws.proofs.FirstTwo.{firstOf, secondOf}
+use Rattle.promises.proofs.numbers.RangeOf.{Members}
+use Rattle.promises.proofs.gauge.Carried.{Motion, Carried, StandsWithin, centreBound, Shifted, shiftedBy, shift-carries}
 use Rattle.promises.proofs.gauge.Cluster.{AllCarried, rotate-length, rotate-leaves-others, rotate-carries}
+use Rattle.promises.proofs.gauge.Hangs.{Hung, hung-same, mirrorSlack}
+use Rattle.promises.proofs.gauge.HungCluster.{gaugeLevel, rotate-hangs}
 
 -- ---- clusters carried each by a motion of its own: two circles of one number are carried by one
 abbrev pub ClustersCarried : ℕ → ℕ → ℕ → List ℕ → List Circle → List Circle → Type 0
@@ -65,7 +70,7 @@ module _ (numbers : List ℕ) (cs : List Circle) where
   gauged-before zero a i l h = ap (λ (c : List Circle). circle c i) gauged-none
   gauged-before (suc n) a i l h = gauged-next-other n a i h (λ e. omega arith) ∙ gauged-before n a i (omega arith) h
 
-  pub gauge-carries : ((i : ℕ) → i < length cs → StandsWithin (pow2 82) (circle cs i)) → (count : ℕ) → ClustersCarried (pow2 34 + pow2 33) (pow2 87) count numbers cs (gauged count numbers cs)
+  pub gauge-carries : ((i : ℕ) → i < length cs → StandsWithin centreBound (circle cs i)) → (count : ℕ) → ClustersCarried (pow2 34 + pow2 33) (pow2 87) count numbers cs (gauged count numbers cs)
   gauge-carries placed zero a l = absurd (omega arith)
   gauge-carries placed (suc n) a l = elim (decLt a n) [
     | yes h ↦ let r = gauge-carries placed n a h in (r .0, λ i k t. rw (gauged-next-other n a i t (λ e. omega arith)) (r .1 i k t))
@@ -79,3 +84,22 @@ module _ (numbers : List ℕ) (cs : List Circle) where
       own e =
           let r = rotate-carries (inCluster numbers n) (gauged n numbers cs) (λ i k t. rw (stands i t) (placed i (rw (gauged-length n) at k))) in
           rw e (r .0, λ i k t. rw (gauged-next n) (rw (stands i t) at (r .1 i (rw (gauged-length n) k) t)))
+
+  -- a cluster of two or more hangs after its own step, and no other step touches it
+  pub gauge-hangs : ((i : ℕ) → i < length cs → StandsWithin centreBound (circle cs i)) → (count a : ℕ) → a < count
+      → let member = inCluster numbers a in let n = length cs in let out = gauged count numbers cs in
+      secondOf member n < n
+      → Hung mirrorSlack gaugeLevel (Members member n) (λ k. units (circle out k .center .x)) (λ k. units (circle out k .center .y)) (firstOf member n) (secondOf member n)
+  gauge-hangs placed zero a l two = absurd (omega arith)
+  gauge-hangs placed (suc n) a l two = elim (decLt a n) [
+    | yes h ↦
+        let left : (k : ℕ) → Members (inCluster numbers a) (length cs) k → circle (gauged (suc n) numbers cs) k ≡ circle (gauged n numbers cs) k = λ k p. gauged-next-other n a k (p .1) (λ e. omega arith) in
+        hung-same (λ k p. ap (λ (c : Circle). units (c .center .x)) (left k p)) (λ k p. ap (λ (c : Circle). units (c .center .y)) (left k p)) (gauge-hangs placed n a h two)
+    | no h ↦
+        let e : a ≡ n = omega arith in
+        let member = inCluster numbers n in
+        let before = gauged n numbers cs in
+        let same = gauged-length n in
+        let hung = rotate-hangs member before (λ i k t. rw (gauged-before n n i (omega arith) t) (placed i (rw same at k))) (lt→ltb (secondOf member (length before)) (length before) (rw (same, ← e) two)) in
+        rw (e, gauged-next n) (rw same at hung)
+  ]

@@ -3,7 +3,7 @@ use mathlib.Core.Path.{_≡_, refl, _∙_}
 use mathlib.Core.Bool.{Bool, false}
 use Prim.Native.Nat.{ℕ, _+_, _*_, _≤_}
 use native.Mathlib.Omega.{arith}
-use lib.Dec.{T, leb}
+use lib.Dec.{T, leb, lit≤}
 use lib.Ieee.{Float, binary64}
 use Rattle.algebra.specs.Integer.{Z, nat, Within, Near, _⊕_, _⊖_, _⊗_}
 use Rattle.rounding.specs.Value.{Fin}
@@ -61,6 +61,13 @@ stands-wider {b} {d} {c} l p = record { fin-x = p .fin-x; fin-y = p .fin-y; with
 -- where the offset step leaves a centre: within 2^21 + 2^-30
 abbrev pub centreBound : ℕ
 centreBound = pow2 81 + pow2 30
+
+-- so within 2^22, which is what the turn asks
+pub in-reach-of-turn : {c : Circle} → StandsWithin centreBound c → StandsWithin (pow2 82) c
+in-reach-of-turn h = stands-wider small h
+  where
+    small : centreBound ≤ pow2 82
+    small = unfold pow2 in lit≤ tt
 
 -- ---- no motion: the turn by 1 and 0
 pub still : Motion

@@ -15,13 +15,13 @@ use Rattle.shapes.specs.declared.point.Point.{Point}
 use Rattle.shapes.specs.declared.bounds.Bounds.{Bounds}
 use Rattle.shapes.specs.declared.circle.Circle.{Circle}
 use Rattle.scope.specs.Numbers.{_-ᶠ_, _<ᶠ_}
-use Rattle.scope.specs.Runs.{least}
 use Rattle.scope.specs.Links.{circle, nowhere}
 use Rattle.scope.specs.Gauge.{changed, level, turn, rotated, turned, pointBox, centresBox, middleX, middleY, mirrorX, mirrorY, mirroredX, mirroredY, mirrored, rotateCluster}
 use Rattle.laws.proofs.Cases.{and-iff, tested, is-true, is-false}
 use Rattle.laws.proofs.Runs.{length-tab, getD-tab, getD-tab-past, least-passes, least-below}
+use Rattle.laws.proofs.FirstTwo.{firstOf, secondOf}
 use Rattle.promises.proofs.gauge.Turn.{turn-is-unit, not-level-some}
-use Rattle.promises.proofs.gauge.Carried.{Motion, Carried, StandsWithin, carried-loosely, still, stays}
+use Rattle.promises.proofs.gauge.Carried.{Motion, Carried, StandsWithin, centreBound, in-reach-of-turn, carried-loosely, still, stays}
 use Rattle.promises.proofs.gauge.Rotate.{turnAbout, rotation-carries}
 use Rattle.promises.proofs.gauge.Mirror.{applied, mirroredBy, mirrors-carry}
 use Rattle.promises.proofs.gauge.Centres.{EndsInside, union-inside, middle-inside}
@@ -33,7 +33,7 @@ module _ (member : ℕ → Bool) (f : Circle → Circle) (cs : List Circle) wher
   unfolding changed
   changed-length = length-tab (length cs) _
 
-  changed-member : (i : ℕ) → i < length cs → T (member i) → circle (changed member f cs) i ≡ f (circle cs i)
+  pub changed-member : (i : ℕ) → i < length cs → T (member i) → circle (changed member f cs) i ≡ f (circle cs i)
   unfolding changed
   changed-member i h t = getD-tab (length cs) _ i nowhere h ∙ rw (is-true (member i) t)
 
@@ -62,7 +62,7 @@ module _ (member : ℕ → Bool) (f : Circle → Circle) (cs : List Circle) wher
 
 -- ---- one motion for every member
 abbrev pub AllPlaced : (ℕ → Bool) → List Circle → Type 0
-AllPlaced member cs = (i : ℕ) → i < length cs → T (member i) → StandsWithin (pow2 82) (circle cs i)
+AllPlaced member cs = (i : ℕ) → i < length cs → T (member i) → StandsWithin centreBound (circle cs i)
 
 abbrev pub AllCarried : Motion → ℕ → ℕ → (ℕ → Bool) → List Circle → List Circle → Type 0
 AllCarried g e b member from to = (i : ℕ) → i < length from → T (member i) → Carried g e b (circle from i) (circle to i)
@@ -82,48 +82,54 @@ module _ (member : ℕ → Bool) (i j : ℕ) (cs : List Circle) where
   unfolding turned
   turned-is = refl
 
-  turned-level : T (level dx dy) → turned member i j cs ≡ cs
+  pub turned-level : T (level dx dy) → turned member i j cs ≡ cs
   turned-level t = rw (turned-is, is-true (level dx dy) t)
 
-  turned-steep : ¬ T (level dx dy) → turned member i j cs ≡ changed member (rotated (turn dx dy) pivot) cs
+  pub turned-steep : ¬ T (level dx dy) → turned member i j cs ≡ changed member (rotated (turn dx dy) pivot) cs
   turned-steep t = rw (turned-is, is-false (level dx dy) t)
 
-  turned-length : length (turned member i j cs) ≡ length cs
+  pub turned-length : length (turned member i j cs) ≡ length cs
   turned-length = elim (tested (level dx dy)) [ yes t ↦ rw (turned-level t) | no t ↦ rw (turned-steep t) (changed-length member (rotated (turn dx dy) pivot) cs) ]
 
   turned-other : (k : ℕ) → ¬ T (member k) → circle (turned member i j cs) k ≡ circle cs k
   turned-other k h = elim (tested (level dx dy)) [ yes t ↦ rw (turned-level t) | no t ↦ rw (turned-steep t) (changed-other member (rotated (turn dx dy) pivot) cs k h) ]
 
   -- the turn of two placed centres that are not level
-  module _ (P : StandsWithin (pow2 82) (circle cs i)) (Q : StandsWithin (pow2 82) (circle cs j)) where
+  module _ (first-placed : StandsWithin centreBound (circle cs i)) (second-placed : StandsWithin centreBound (circle cs j)) where
+    P : StandsWithin (pow2 82) (circle cs i)
+    P = in-reach-of-turn first-placed
+
+    Q : StandsWithin (pow2 82) (circle cs j)
+    Q = in-reach-of-turn second-placed
+
     dx-fin : Fin binary64 dx
     dx-fin = sub64 29 tt (circle cs j .center .x) (circle cs i .center .x) (Q .fin-x) (P .fin-x) (omega (arith, P .within-x, Q .within-x, pow2-scale 82 1)) .fin
 
     dy-fin : Fin binary64 dy
     dy-fin = sub64 29 tt (circle cs j .center .y) (circle cs i .center .y) (Q .fin-y) (P .fin-y) (omega (arith, P .within-y, Q .within-y, pow2-scale 82 1)) .fin
 
-    turned-carries : AllPlaced member cs → (g : Motion) × AllCarried g (pow2 34) (pow2 85) member cs (turned member i j cs)
+    pub turned-carries : AllPlaced member cs → (g : Motion) × AllCarried g (pow2 34) (pow2 85) member cs (turned member i j cs)
     turned-carries placed = elim (tested (level dx dy)) [
-      | yes t ↦ (still, λ k h m. rw (turned-level t) (carried-loosely (pow2 34) (pow2 85) (omega arith) (pow2-le 82 85 tt) (stays (circle cs k) (placed k h m))))
+      | yes t ↦ (still, λ k h m. rw (turned-level t) (carried-loosely (pow2 34) (pow2 85) (omega arith) (pow2-le 82 85 tt) (stays (circle cs k) (in-reach-of-turn (placed k h m)))))
       | no t ↦
           let u = turn-is-unit dx dy dx-fin dy-fin (not-level-some dx dy dx-fin dy-fin t) in (
             turnAbout (turn dx dy) u pivot,
-            λ k h m. rw (turned-steep t, changed-member member (rotated (turn dx dy) pivot) cs k h m) (rotation-carries (turn dx dy) u (circle cs i) (circle cs k) P (placed k h m)),
+            λ k h m. rw (turned-steep t, changed-member member (rotated (turn dx dy) pivot) cs k h m) (rotation-carries (turn dx dy) u (circle cs i) (circle cs k) P (in-reach-of-turn (placed k h m))),
           )
     ]
 
 -- ---- the mirrors
 module _ (member : ℕ → Bool) (i : ℕ) (cs : List Circle) where
-  abbrev box : Bounds
+  abbrev pub box : Bounds
   box = centresBox member cs
 
-  abbrev inX : Bool
+  abbrev pub inX : Bool
   inX = middleX box <ᶠ circle cs i .center .x
 
-  abbrev half-way : List Circle
+  abbrev pub half-way : List Circle
   half-way = maybe member (mirrorX (middleX box)) cs inX
 
-  abbrev inY : Bool
+  abbrev pub inY : Bool
   inY = middleY box <ᶠ circle half-way i .center .y
 
   mirrored-is : mirrored member i cs ≡ maybe member (mirrorY (middleY box)) half-way inY
@@ -133,17 +139,20 @@ module _ (member : ℕ → Bool) (i : ℕ) (cs : List Circle) where
   half-way-length : length half-way ≡ length cs
   half-way-length = maybe-length member (mirrorX (middleX box)) cs inX
 
-  mirrored-length : length (mirrored member i cs) ≡ length cs
+  pub mirrored-length : length (mirrored member i cs) ≡ length cs
   mirrored-length = ap length mirrored-is ∙ maybe-length member (mirrorY (middleY box)) half-way inY ∙ half-way-length
 
   mirrored-other : (k : ℕ) → ¬ T (member k) → circle (mirrored member i cs) k ≡ circle cs k
   mirrored-other k h = ap (λ (l : List Circle). circle l k) mirrored-is ∙ maybe-other member (mirrorY (middleY box)) half-way inY k h ∙ maybe-other member (mirrorX (middleX box)) cs inX k h
 
-  mirrored-member : (k : ℕ) → k < length cs → T (member k) → circle (mirrored member i cs) k ≡ applied inY (mirrorY (middleY box)) (applied inX (mirrorX (middleX box)) (circle cs k))
+  pub half-way-member : (k : ℕ) → k < length cs → T (member k) → circle half-way k ≡ applied inX (mirrorX (middleX box)) (circle cs k)
+  half-way-member k h m = maybe-member member (mirrorX (middleX box)) cs inX k h m
+
+  pub mirrored-member : (k : ℕ) → k < length cs → T (member k) → circle (mirrored member i cs) k ≡ applied inY (mirrorY (middleY box)) (applied inX (mirrorX (middleX box)) (circle cs k))
   mirrored-member k h m =
       ap (λ (l : List Circle). circle l k) mirrored-is
       ∙ maybe-member member (mirrorY (middleY box)) half-way inY k (rw half-way-length h) m
-      ∙ ap (applied inY (mirrorY (middleY box))) (maybe-member member (mirrorX (middleX box)) cs inX k h m)
+      ∙ ap (applied inY (mirrorY (middleY box))) (half-way-member k h m)
 
   mirrored-carries : {g : Motion} {e : ℕ} (from : List Circle) → length from ≡ length cs → AllPlaced member from → AllCarried g e (pow2 85) member from cs → (k : ℕ) → k < length from → T (member k)
       → (h : Motion) × AllCarried h (e + pow2 33) (pow2 87) member from (mirrored member i cs)
@@ -167,11 +176,11 @@ module _ (member : ℕ → Bool) (i : ℕ) (cs : List Circle) where
 
 -- ---- the whole step
 module _ (member : ℕ → Bool) (cs : List Circle) where
-  abbrev first : ℕ
-  first = least (length cs) member
+  abbrev pub first : ℕ
+  first = firstOf member (length cs)
 
-  abbrev second : ℕ
-  second = least (length cs) (λ k. member k && not (eqb k first))
+  abbrev pub second : ℕ
+  second = secondOf member (length cs)
 
   abbrev stepped : List Circle
   stepped = mirrored member first (turned member first second cs)
@@ -180,7 +189,7 @@ module _ (member : ℕ → Bool) (cs : List Circle) where
   unfolding rotateCluster
   rotate-is = refl
 
-  rotate-two : T (ltb second (length cs)) → rotateCluster member cs ≡ stepped
+  pub rotate-two : T (ltb second (length cs)) → rotateCluster member cs ≡ stepped
   rotate-two t = rw (rotate-is, is-true (ltb second (length cs)) t)
 
   rotate-fewer : ¬ T (ltb second (length cs)) → rotateCluster member cs ≡ cs
@@ -209,5 +218,5 @@ module _ (member : ℕ → Bool) (cs : List Circle) where
         let a = turned-carries member first second cs (placed first first-below f) (placed second below m) placed in
         let b = mirrored-carries member first (turned member first second cs) cs (sym (turned-length member first second cs)) placed (a .1) first first-below f in
         (b .0, λ k h u. rw (rotate-two t) (b .1 k h u))
-    | no t ↦ (still, λ k h u. rw (rotate-fewer t) (carried-loosely (pow2 34 + pow2 33) (pow2 87) (omega arith) (pow2-le 82 87 tt) (stays (circle cs k) (placed k h u))))
+    | no t ↦ (still, λ k h u. rw (rotate-fewer t) (carried-loosely (pow2 34 + pow2 33) (pow2 87) (omega arith) (pow2-le 82 87 tt) (stays (circle cs k) (in-reach-of-turn (placed k h u)))))
   ]

@@ -5,10 +5,10 @@ use Prim.Native.Nat.{ℕ, _+_, _*_, _^_, _≤_, _<_}
 use native.Mathlib.Omega.{arith}
 use lib.Dec.{lit≤}
 use lib.Ieee.{Float, binary64}
-use Rattle.algebra.specs.Integer.{Z, _⊖_, _⊗_, nat, Within}
-use Rattle.rounding.specs.Value.{mag, negative, signed, Fin}
+use Rattle.algebra.specs.Integer.{Z, _⊕_, _⊖_, _⊗_, nat, Within, Near}
+use Rattle.rounding.specs.Value.{mag, negative, signed, val, Fin}
 use Rattle.rounding.specs.Scale.{pow2}
-use Rattle.rounding.proofs.Double.{pow2-scale, pow2-le}
+use Rattle.rounding.proofs.Double.{sub64, pow2-scale, pow2-le}
 use Rattle.rounding.proofs.Rounded.{signed-within}
 use Rattle.rounding.proofs.Halve.{twice}
 use Rattle.shapes.specs.declared.circle.Circle.{Circle}
@@ -18,7 +18,7 @@ use Rattle.scope.specs.Gauge.{mirrorX, mirrorY}
 use Rattle.scope.specs.Promises.{units}
 use Rattle.promises.proofs.numbers.Magnitude.{mag-le}
 use Rattle.promises.proofs.gauge.Axis.{Axis, loosen, mirror}
-use Rattle.promises.proofs.numbers.Bounded.{two-finite, two-sign, two-size}
+use Rattle.promises.proofs.numbers.Bounded.{Bounded, near-of, two-finite, two-sign, two-size}
 use Rattle.promises.proofs.gauge.Carried.{Motion, Carried}
 
 -- ---- 2m is exact
@@ -35,6 +35,17 @@ module _ (m : Float) (p : Fin binary64 m) (w : Within (units m) (pow2 85)) where
 
   doubled-within : Within (units (two *ᶠ m)) (pow2 86)
   doubled-within = rw (doubled-exactly .1) (signed-within (negative m) (2 * mag binary64 m) (pow2 86) (omega (arith, mag-le m (pow2 85) w, pow2-scale 85 1)))
+
+  -- ---- a number mirrored
+  pub reflected : (x : Float) → Bounded (pow2 85) x → Near (units (two *ᶠ m -ᶠ x)) (units m ⊕ units m ⊖ units x) (pow2 33)
+  unfolding val
+  reflected x h =
+      let r = sub64 33 tt (two *ᶠ m) x (doubled-exactly .0) (h .fin) (omega (arith, h .within, doubled-within, pow2-scale 85 1, pow2-scale 85 2)) in
+      go (negative m) (mag binary64 m) (units (two *ᶠ m)) (units x) (units (two *ᶠ m -ᶠ x)) (doubled-exactly .1) (near-of (r .near))
+    where
+      go : (s : Bool) (a : ℕ) (d x y : Z) → d ≡ signed s (2 * a) → Near y (d ⊖ x) (pow2 33) → Near y (signed s a ⊕ signed s a ⊖ x) (pow2 33)
+      go true a d x y e n = let k = rw e at n in omega arith
+      go false a d x y e n = let k = rw e at n in omega arith
 
   -- ---- one axis, mirrored where f says so
   pub mirror-if : {σ : Bool} {u k : Z} {x : Float} {e : ℕ} (f : Bool) → Axis σ u k x e (pow2 85)

@@ -110,7 +110,7 @@ sum-axis p m n A B u k fp wp M N e =
     }
 
 -- ---- the turn about a pivot as a motion
-pub turnAbout : (t : Turn) → Turned t → Point → Motion
+unfoldable pub turnAbout : (t : Turn) → Turned t → Point → Motion
 turnAbout t h pivot = record {
   cosine = units (t .cosine);
   sine = units (t .sine);

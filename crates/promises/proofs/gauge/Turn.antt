@@ -1,26 +1,27 @@
--- The turn's cosine and sine: c² + s² is 1 within 2^-49, for any two finite lengths that are not both 0, however small.
+-- The turn's cosine and sine: c² + s² is 1 within 2^-49, and dx*s + dy*c, where the second centre comes out, is 0 within 2^-52 of their sizes, for any two
+-- finite lengths that are not both 0, however small.
 -- Of a = dx/m and b = dy/m one is 1 in size but for 2^-54, so their root h is not small, and what each rounding adds is small against it.
-use mathlib.Core.Path.{_≡_, refl, ap, _∙_}
+use mathlib.Core.Path.{_≡_, refl, ap, _∙_, subst}
 use mathlib.Core.Logic.{_⊎_, inl, inr}
-use mathlib.Core.Bool.{false, _&&_}
+use mathlib.Core.Bool.{Bool, true, false, _&&_}
 use Prim.Native.Nat.{ℕ, _+_, _-_, _*_, _^_, _≤_, _<_}
 use native.Mathlib.Nat.{mul-le-mul, mul-le-mul-right, mul-le-mul-left, le-of-mul-le-mul-right, mul-pos, le-trans}
 use native.Mathlib.Omega.{arith}
 use lib.Dec.{T, lit≤}
 use lib.Ieee.{Float, fin, binary64, neg, eq, fits, unlike}
-use Rattle.algebra.specs.Integer.{Z, _⊕_, _≈_, nat, Within, Near}
-use Rattle.algebra.proofs.Size.{either, within-mul}
+use Rattle.algebra.specs.Integer.{Z, _⊕_, _⊖_, _⊗_, _≈_, nat, opp, Within, Near}
+use Rattle.algebra.proofs.Size.{either, within-mul, within-difference}
 use Rattle.algebra.proofs.Squares.{square-le}
-use Rattle.rounding.specs.Value.{mag, negative, val, Fin}
+use Rattle.rounding.specs.Value.{mag, negative, signed, val, Fin}
 use Rattle.rounding.specs.Scale.{pow2}
 use Rattle.rounding.specs.Root.{root}
 use Rattle.rounding.specs.Extremes.{maximum}
 use Rattle.rounding.proofs.Value.{val-mag}
-use Rattle.rounding.proofs.Double.{add64, mul64, div64, pow2-scale}
+use Rattle.rounding.proofs.Double.{Close, add64, mul64, div64, pow2-scale}
 use Rattle.rounding.proofs.Add.{add-sign}
 use Rattle.rounding.proofs.Multiply.{square-sign}
 use Rattle.rounding.proofs.root.Operation.{root-near}
-use Rattle.rounding.proofs.Negate.{neg-mag, neg-fin}
+use Rattle.rounding.proofs.Negate.{neg-mag, neg-val, neg-fin}
 use Rattle.rounding.proofs.Order.{eq-is}
 use Rattle.rounding.proofs.Extremes.{maximum-one-of, maximum-either, maximum-greatest}
 use Rattle.scope.specs.Numbers.{_+ᶠ_, _*ᶠ_, _/ᶠ_, nought, abs}
@@ -70,9 +71,22 @@ module _ (L e : ℕ) (fine : 1000 * e ≤ L) where
         (omega (arith, k, mul-le-mul-left (L * L) t, mul-le-mul-left (L * L) w, mul-le-mul-left (4 * (e * h * L)) tall, mul-le-mul-left (e * L) tall-square, mul-le-mul-left (e * e) tall-square, mul-le-mul-left (e * h * h) fine))
         square-pos
 
+-- ---- a rounded quotient times its divisor
+quotient-times : (x y : Float) {e b : ℕ} → Close (x /ᶠ y) (signed (unlike (negative x) (negative y)) (size x * pow2 60)) (size y) e b
+    → Near (units (x /ᶠ y) ⊗ units y) (units x ⊗ nat (pow2 60)) (e * size y)
+unfolding val
+quotient-times x y {e} r = go (negative x) (negative y) (size x) (size y) (units (x /ᶠ y)) (r .near)
+  where
+    go : (s t : Bool) (A B : ℕ) (z : Z) → Near (z ⊗ nat B) (signed (unlike s t) (A * pow2 60)) (e * B) → Near (z ⊗ signed t B) (signed s A ⊗ nat (pow2 60)) (e * B)
+    go false false A B z h = omega arith
+    go false true A B z h = omega arith
+    go true false A B z h = omega arith
+    go true true A B z h = omega arith
+
 -- ---- a and b: quotients of size at most 1
 record Ratio (x m a : Float) : Type 0 where
   fin : Fin binary64 a
+  times : Near (units a ⊗ units m) (units x ⊗ nat (pow2 60)) (pow2 6 * size m)
   small : size a ≤ pow2 60
   full : size m ≡ size x → pow2 60 ≤ size a + pow2 6
 
@@ -80,7 +94,7 @@ ratio : (x m : Float) → Fin binary64 x → Fin binary64 m → 0 < size m → s
 ratio x m p q some l =
     let r = div64 6 tt x m p q some (omega (arith, mul-le-mul-left (pow2 60) l)) in
     let sizes = close-sizes (unlike (negative x) (negative m)) (size x * pow2 60) refl r in
-    record { fin = r .fin; small = mag-le (x /ᶠ m) (pow2 60) (r .within); full = λ h. cancel (size (x /ᶠ m)) (size m) (pow2 60) (pow2 6) (size x) some (sizes .1) h }
+    record { fin = r .fin; times = quotient-times x m r; small = mag-le (x /ᶠ m) (pow2 60) (r .within); full = λ h. cancel (size (x /ᶠ m)) (size m) (pow2 60) (pow2 6) (size x) some (sizes .1) h }
   where
     cancel : (A M L e D : ℕ) → 0 < M → D * L ≤ A * M + e * M → M ≡ D → L ≤ A + e
     cancel A M L e D p h q = le-of-mul-le-mul-right {k = M} (omega (arith, ap (λ (z : ℕ). z * L) q)) p
@@ -156,6 +170,7 @@ pub record Turned (t : Turn) : Type 0 where
 
 record Cosine (a h c : Float) : Type 0 where
   fin : Fin binary64 c
+  times : Near (units c ⊗ units h) (units a ⊗ nat (pow2 60)) (2 * pow2 6 * size h)
   above : size c * size h ≤ size a * pow2 60 + 2 * (pow2 6 * size h)
   below : size a * pow2 60 ≤ size c * size h + 2 * (pow2 6 * size h)
 
@@ -169,7 +184,7 @@ over-root a h p q l tall =
     let r = div64 7 tt a h p q (omega arith) (omega (arith, mul-le-mul-left (pow2 60) l, mul-le-mul-left (pow2 60) tall, ap (λ (z : ℕ). z * size h) (pow2-scale 60 1))) in
     let sizes = close-sizes (unlike (negative a) (negative h)) (size a * pow2 60) refl r in
     let double = ap (λ (z : ℕ). z * size h) (pow2-scale 6 1) in
-    record { fin = r .fin; above = omega (arith, sizes .0, double); below = omega (arith, sizes .1, double) }
+    record { fin = r .fin; times = subst (λ (e : ℕ). Near (units (a /ᶠ h) ⊗ units h) (units a ⊗ nat (pow2 60)) (e * size h)) (pow2-scale 6 1) (quotient-times a h r); above = omega (arith, sizes .0, double); below = omega (arith, sizes .1, double) }
 
 unit-of : (A B : Z) (x y m e f : ℕ) → A ≈ nat x → B ≈ nat y → f ≡ e → x + y ≤ m + e → m ≤ x + y + e → Near (A ⊕ B) (nat m) f
 unit-of A B x y m e f h k q u d = omega arith
@@ -214,41 +229,120 @@ module _ (a b : Float) (p : Fin binary64 a) (q : Fin binary64 b) (la : size a �
         sine-small = within-mag (neg s) (L + pow2 11) (rw (neg-mag binary64 s) (part-small (size s) (size c) L e (pow2 11) (omega (arith, above)) (pow2-scale 6 5)));
       }
 
--- m is any f64 of the size of the larger
-turned-by : (dx dy m : Float) → Fin binary64 dx → Fin binary64 dy → Fin binary64 m → 0 < size m → size dx ≤ size m → size dy ≤ size m → (size m ≡ size dx) ⊎ (size m ≡ size dy)
-    → Turned (record { cosine = (dx /ᶠ m) /ᶠ hypotenuse (dx /ᶠ m) (dy /ᶠ m); sine = neg ((dy /ᶠ m) /ᶠ hypotenuse (dx /ᶠ m) (dy /ᶠ m)) })
-turned-by dx dy m p q o some lx ly w =
-    let a = ratio dx m p o some lx in
-    let b = ratio dy m q o some ly in
-    let x = dx /ᶠ m in
-    let y = dy /ᶠ m in
-    quotients-turned x y (a .fin) (b .fin) (a .small) (b .small)
-    (elim w [
-      | inl h ↦ hypotenuse-not-small x y (a .fin) (b .fin) (a .small) (b .small) x (a .full h) (a .small) (omega arith)
-      | inr h ↦ hypotenuse-not-small x y (a .fin) (b .fin) (a .small) (b .small) y (b .full h) (b .small) (omega arith)
-    ])
+-- ---- where the second centre comes out
+within-over : (X : Z) (y : Float) (k : ℕ) → 0 < size y → Within (X ⊗ units y) (k * size y) → Within X k
+unfolding val
+within-over X y k some h = go (negative y) (size y) some h
+  where
+    go : (t : Bool) (B : ℕ) → 0 < B → Within (X ⊗ signed t B) (k * B) → Within X k
+    go false B p h = record { above = le-of-mul-le-mul-right {k = B} (omega arith) p; below = le-of-mul-le-mul-right {k = B} (omega arith) p }
+    go true B p h = record { above = le-of-mul-le-mul-right {k = B} (omega arith) p; below = le-of-mul-le-mul-right {k = B} (omega arith) p }
 
-pub turn-is-unit : (dx dy : Float) → Fin binary64 dx → Fin binary64 dy → 0 < size dx + size dy → Turned (turn dx dy)
-unfolding turn
-turn-is-unit dx dy p q some =
-    let m = maximum (abs dx) (abs dy) in
-    let fx = abs-fin dx p in
-    let fy = abs-fin dy q in
-    let mx = abs-mag dx in
-    let my = abs-mag dy in
-    let fm = maximum-either (λ (u : Float). Fin binary64 u) (abs dx) (abs dy) fx fy in
-    let sm = maximum-either (λ (u : Float). negative u ≡ false) (abs dx) (abs dy) (abs-sign dx) (abs-sign dy) in
-    let g = maximum-greatest binary64 (abs dx) (abs dy) fx fy in
-    let larger = rw (val-mag binary64 (abs dx) (abs-sign dx), val-mag binary64 (abs dy) (abs-sign dy), val-mag binary64 m sm) at g in
-    turned-by dx dy m p q fm (omega arith) (omega arith) (omega arith)
-    (elim (maximum-one-of (abs dx) (abs dy)) [ inl e ↦ inl (ap (mag binary64) e ∙ mx) | inr e ↦ inr (ap (mag binary64) e ∙ my) ])
+-- Two numbers A and B divided by one H, each quotient within f, then multiplied crosswise by Q and P: what stands between the products was there before, times
+-- L, or is of the roundings.
+crossed : (A B C S P Q H : Z) (L f h a b w : ℕ) → Near (C ⊗ H) (A ⊗ nat L) (f * h) → Near (S ⊗ H) (B ⊗ nat L) (f * h) → Within P a → Within Q b → Within (Q ⊗ A ⊖ P ⊗ B) w
+    → Within ((Q ⊗ C ⊖ P ⊗ S) ⊗ H) (w * L + (a + b) * (f * h))
+crossed A B C S P Q H L f h a b w c s p q before =
+    let u = C ⊗ H ⊖ A ⊗ nat L in
+    let v = S ⊗ H ⊖ B ⊗ nat L in
+    add (Q ⊗ C) (P ⊗ S) (Q ⊗ A) (P ⊗ B) (Q ⊗ u) (P ⊗ v) (f * h) (apart Q C A) (apart P S B) before (within-mul q (within-difference c)) (within-mul p (within-difference s))
+  where
+    apart : (Q C A : Z) → Q ⊗ C ⊗ H ≈ Q ⊗ A ⊗ nat L ⊕ Q ⊗ (C ⊗ H ⊖ A ⊗ nat L)
+    apart Q C A = omega arith
+
+    add : (X Y X' Y' U W : Z) (g : ℕ) → X ⊗ H ≈ X' ⊗ nat L ⊕ U → Y ⊗ H ≈ Y' ⊗ nat L ⊕ W → Within (X' ⊖ Y') w → Within U (b * g) → Within W (a * g) → Within ((X ⊖ Y) ⊗ H) (w * L + (a + b) * g)
+    add X Y X' Y' U W g x y z u v = omega (arith, mul-le-mul-right L (z .above), mul-le-mul-right L (z .below))
+
+-- ---- m is any f64 of the size of the larger
+module _ (dx dy m : Float) (p : Fin binary64 dx) (q : Fin binary64 dy) (o : Fin binary64 m) (some : 0 < size m) (lx : size dx ≤ size m) (ly : size dy ≤ size m)
+    (w : (size m ≡ size dx) ⊎ (size m ≡ size dy)) where
+  abbrev x : Float
+  x = dx /ᶠ m
+
+  abbrev y : Float
+  y = dy /ᶠ m
+
+  abbrev h : Float
+  h = hypotenuse x y
+
+  ratio-x : Ratio dx m x
+  ratio-x = ratio dx m p o some lx
+
+  ratio-y : Ratio dy m y
+  ratio-y = ratio dy m q o some ly
+
+  tall : 3 * pow2 60 ≤ 4 * size h
+  tall = elim w [
+    | inl e ↦ hypotenuse-not-small x y (ratio-x .fin) (ratio-y .fin) (ratio-x .small) (ratio-y .small) x (ratio-x .full e) (ratio-x .small) (omega arith)
+    | inr e ↦ hypotenuse-not-small x y (ratio-x .fin) (ratio-y .fin) (ratio-x .small) (ratio-y .small) y (ratio-y .full e) (ratio-y .small) (omega arith)
+  ]
+
+  turned-by : Turned (record { cosine = x /ᶠ h; sine = neg (y /ᶠ h) })
+  turned-by = quotients-turned x y (ratio-x .fin) (ratio-y .fin) (ratio-x .small) (ratio-y .small) tall
+
+  levelled-by : Within (units dy ⊗ units (x /ᶠ h) ⊕ units dx ⊗ units (neg (y /ᶠ h))) (4 * (pow2 6 * (size dx + size dy)))
+  levelled-by =
+      let root = hypotenuse-near x y (ratio-x .fin) (ratio-y .fin) (ratio-x .small) (ratio-y .small) in
+      let C = over-root x h (ratio-x .fin) (root .fin) (ratio-x .small) tall in
+      let S = over-root y h (ratio-y .fin) (root .fin) (ratio-y .small) tall in
+      let P = units dx in
+      let Q = units dy in
+      let wp = within-mag dx (size dx) (omega arith) in
+      let wq = within-mag dy (size dy) (omega arith) in
+      let ratios =
+      within-over (Q ⊗ units x ⊖ P ⊗ units y) m (pow2 6 * (size dx + size dy)) some
+      (first ((Q ⊗ units x ⊖ P ⊗ units y) ⊗ units m) (size dx) (size dy) (pow2 6) (size m) (pow2 60)
+      (crossed P Q (units x) (units y) P Q (units m) (pow2 60) (pow2 6) (size m) (size dx) (size dy) 0 (ratio-x .times) (ratio-y .times) wp wq (omega arith))) in
+      rw (neg-val binary64 (y /ᶠ h))
+      (opposite Q (units (x /ᶠ h)) P (units (y /ᶠ h)) (4 * (pow2 6 * (size dx + size dy)))
+      (within-over (Q ⊗ units (x /ᶠ h) ⊖ P ⊗ units (y /ᶠ h)) h (4 * (pow2 6 * (size dx + size dy))) (omega (arith, tall, one-pos))
+      (second ((Q ⊗ units (x /ᶠ h) ⊖ P ⊗ units (y /ᶠ h)) ⊗ units h) (size dx) (size dy) (pow2 6) (size h) (pow2 60) tall
+      (crossed (units x) (units y) (units (x /ᶠ h)) (units (y /ᶠ h)) P Q (units h) (pow2 60) (2 * pow2 6) (size h) (size dx) (size dy) (pow2 6 * (size dx + size dy)) (C .times) (S .times) wp wq ratios))))
+    where
+      first : (X : Z) (a b e m L : ℕ) → Within X (0 * L + (a + b) * (e * m)) → Within X (e * (a + b) * m)
+      first X a b e m L h = omega arith
+
+      second : (X : Z) (a b e h L : ℕ) → 3 * L ≤ 4 * h → Within X (e * (a + b) * L + (a + b) * (2 * e * h)) → Within X (4 * (e * (a + b)) * h)
+      second X a b e h L l k = omega (arith, mul-le-mul-left (e * (a + b)) l)
+
+      opposite : (q c p s : Z) (k : ℕ) → Within (q ⊗ c ⊖ p ⊗ s) k → Within (q ⊗ c ⊕ p ⊗ opp s) k
+      opposite q c p s k h = omega arith
+
+-- ---- the turn
+module _ (dx dy : Float) (p : Fin binary64 dx) (q : Fin binary64 dy) (some : 0 < size dx + size dy) where
+  abbrev larger : Float
+  larger = maximum (abs dx) (abs dy)
+
+  larger-finite : Fin binary64 larger
+  larger-finite = maximum-either (λ (u : Float). Fin binary64 u) (abs dx) (abs dy) (abs-fin dx p) (abs-fin dy q)
+
+  larger-is-one : (size larger ≡ size dx) ⊎ (size larger ≡ size dy)
+  larger-is-one = elim (maximum-one-of (abs dx) (abs dy)) [ inl e ↦ inl (ap (mag binary64) e ∙ abs-mag dx) | inr e ↦ inr (ap (mag binary64) e ∙ abs-mag dy) ]
+
+  larger-above : (size dx ≤ size larger) × (size dy ≤ size larger)
+  larger-above =
+      let g = maximum-greatest binary64 (abs dx) (abs dy) (abs-fin dx p) (abs-fin dy q) in
+      let sign = maximum-either (λ (u : Float). negative u ≡ false) (abs dx) (abs dy) (abs-sign dx) (abs-sign dy) in
+      let above = rw (val-mag binary64 (abs dx) (abs-sign dx), val-mag binary64 (abs dy) (abs-sign dy), val-mag binary64 larger sign) at g in
+      (omega (arith, abs-mag dx), omega (arith, abs-mag dy))
+
+  larger-some : 0 < size larger
+  larger-some = omega (arith, larger-above .0, larger-above .1)
+
+  pub turn-is-unit : Turned (turn dx dy)
+  unfolding turn
+  turn-is-unit = turned-by dx dy larger p q larger-finite larger-some (larger-above .0) (larger-above .1) larger-is-one
+
+  pub turn-levels : Within (units dy ⊗ units (turn dx dy .cosine) ⊕ units dx ⊗ units (turn dx dy .sine)) (4 * (pow2 6 * (size dx + size dy)))
+  unfolding turn
+  turn-levels = levelled-by dx dy larger p q larger-finite larger-some (larger-above .0) (larger-above .1) larger-is-one
 
 -- ---- 01's test for no turn, read the other way
-nought-fin : Fin binary64 nought
+pub nought-fin : Fin binary64 nought
 unfolding Fin fits
 nought-fin = tt
 
-nought-value : units nought ≡ nat 0
+pub nought-value : units nought ≡ nat 0
 unfolding val mag negative
 nought-value = refl
 

@@ -25,12 +25,13 @@ use Rattle.scope.specs.Centring.{centredLayout}
 use Rattle.scope.specs.Promises.{units, xAxis, yAxis, Finite, lower, upper, gapOn, Apart}
 use Rattle.laws.proofs.Cases.{is-true, is-false}
 use Rattle.promises.proofs.numbers.Bounded.{Bounded}
+use Rattle.promises.proofs.numbers.RangeOf.{range-for}
 use Rattle.promises.proofs.packing.BoxSides.{at, AllSpan, x-ends, y-ends}
 use Rattle.promises.proofs.packing.Shift.{ShiftedBy, Step, IsSum, shifted-is-sum}
 use Rattle.promises.proofs.packing.Gap.{packedReach, packedSlack, gridRoom}
 use Rattle.promises.proofs.packing.KeptGap.{ApartOn, larger-above, kept-above, kept-span}
 use Rattle.promises.proofs.packing.Centred.{centred-length, centred-at, CentringRoom, OnAxis, centring-shift}
-use Rattle.promises.proofs.packing.BoxMiddle.{ExactEnds, middle-near-origin}
+use Rattle.promises.proofs.packing.BoxMiddle.{BoxOf, middle-near-origin}
 use Rattle.promises.proofs.packing.PackedCircles.{boxes-length, shiftAcross, shiftUp}
 use Rattle.promises.proofs.packing.Packed.{Inside, Packable, packed-length, packed-step, packed-inside, packed-apart, packed-span-x, packed-span-y}
 use Rattle.promises.proofs.packing.NoShift.{noShift, no-shift-finite, no-shift-value, no-shift}
@@ -53,19 +54,12 @@ pub record Arranged (i o t across up : ℕ) (numbers : List ℕ) (pad : Float) (
   pub span-x : AllSpan across xAxis (length cs) out
   pub span-y : AllSpan up yAxis (length cs) out
   -- twice the middle of the exact box of them all
-  pub middle-x : (lo hi : Z) → ExactEnds xAxis out lo hi → Within (lo ⊕ hi) (2 * pow2 i + 4 * pow2 o)
-  pub middle-y : (lo hi : Z) → ExactEnds yAxis out lo hi → Within (lo ⊕ hi) (2 * pow2 i + 4 * pow2 o)
+  pub middle-x : (box : BoxOf xAxis (length cs) out) → Within (box .lo ⊕ box .hi) (2 * pow2 i + 4 * pow2 o)
+  pub middle-y : (box : BoxOf yAxis (length cs) out) → Within (box .lo ⊕ box .hi) (2 * pow2 i + 4 * pow2 o)
 
--- each number of a returned circle (for request 7 of document 02)
-module _ {i o t across up : ℕ} {numbers : List ℕ} {pad : Float} {cs out : List Circle} (A : Arranged i o t across up numbers pad cs out) (j : ℕ) (l : j < length cs) where
-  pub returned-x : circle out j .center .x ≡ add binary64 (add binary64 (circle cs j .center .x) (A .clusterX (getD numbers j 0))) (A .layoutX)
-  returned-x = A .second j l .x .is ∙ ap (λ (x : Float). add binary64 x (A .layoutX)) (A .first j l .x .is)
-
-  pub returned-y : circle out j .center .y ≡ add binary64 (add binary64 (circle cs j .center .y) (A .clusterY (getD numbers j 0))) (A .layoutY)
-  returned-y = A .second j l .y .is ∙ ap (λ (y : Float). add binary64 y (A .layoutY)) (A .first j l .y .is)
-
-  pub returned-radius : circle out j .radius ≡ circle cs j .radius
-  returned-radius = A .second j l .radius ∙ A .first j l .radius
+pub returned-radius : {i o t across up : ℕ} {numbers : List ℕ} {pad : Float} {cs out : List Circle} → Arranged i o t across up numbers pad cs out → (j : ℕ) → j < length cs
+    → circle out j .radius ≡ circle cs j .radius
+returned-radius A j l = A .second j l .radius ∙ A .first j l .radius
 
 -- ---- before the centring: the circles stand within Y, each shifted by a number of its cluster
 pub record Stage (i Y R s across up : ℕ) (numbers : List ℕ) (pad : Float) (cs out : List Circle) : Type 0 where
@@ -156,8 +150,8 @@ module _ {i o Y R X s t across up : ℕ} (room : CentringRoom i o Y R X) (slack 
     gap = λ j m l n e. elim (S .gap j m l n e) [ inl h ↦ inl (kept xAxis layoutX sum-x j m l n h) | inr h ↦ inr (kept yAxis layoutY sum-y j m l n h) ];
     span-x = λ j m l n. kept-span o layoutX xAxis (circle mid j) (circle mid m) (circle out j) (circle out m) (sum-x j l) (sum-x m n) (out-radius j l) (out-radius m n) across (S .span-x j m l n);
     span-y = λ j m l n. kept-span o layoutY yAxis (circle mid j) (circle mid m) (circle out j) (circle out m) (sum-y j l) (sum-y m n) (out-radius j l) (out-radius m n) up (S .span-y j m l n);
-    middle-x = λ lo hi e. middle-near-origin room on-x out (centred-length mid) (λ j l. out-radius j (here j l)) (λ j l. sum-x j (here j l)) e;
-    middle-y = λ lo hi e. middle-near-origin room on-y out (centred-length mid) (λ j l. out-radius j (here j l)) (λ j l. sum-y j (here j l)) e;
+    middle-x = λ b. middle-near-origin room on-x out (λ j l. out-radius j (here j l)) (λ j l. sum-x j (here j l)) (range-for there here b);
+    middle-y = λ b. middle-near-origin room on-y out (λ j l. out-radius j (here j l)) (λ j l. sum-y j (here j l)) (range-for there here b);
   }
 
 -- ---- the stage before: fewer than two clusters, and more

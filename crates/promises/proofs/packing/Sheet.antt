@@ -23,9 +23,10 @@ use Rattle.scope.specs.Promises.{units, xAxis, yAxis, lower, upper}
 use Rattle.promises.specs.CardStock.{wholeMost, SheetFits}
 use Rattle.promises.proofs.numbers.Bounded.{Bounded, Upto, further}
 use Rattle.promises.proofs.numbers.Magnitude.{mag-le}
+use Rattle.promises.proofs.numbers.RangeOf.{range-for}
 use Rattle.promises.proofs.packing.BoxSides.{at, AllSpan, EndsOf, x-ends, y-ends, side-upto}
 use Rattle.promises.proofs.packing.Gap.{packedSlack}
-use Rattle.promises.proofs.packing.BoxMiddle.{ExactEnds, exact-ends}
+use Rattle.promises.proofs.packing.BoxMiddle.{BoxOf, box-of}
 use Rattle.promises.proofs.packing.Raised.{raised-at-most, passes-to-whole}
 use Rattle.promises.proofs.packing.Places.{rows-filled, row-below}
 use Rattle.promises.proofs.packing.Columns.{GridFits}
@@ -44,17 +45,16 @@ pub record SheetBudget (h i o s n lines R e C line : ℕ) : Type 0 where
 module _ (e C R w m : ℕ) (te : T (leb e 1029)) (half : w + m ≤ 2 * C) (ends-fit : 2 * (C + R + pow2 e) ≤ pow2 (54 + e)) (axis : Point → Float) (cs : List Circle) (some : 0 < length cs)
     (finite : (j : ℕ) → j < length cs → Fin binary64 (at axis cs j)) (radii : (j : ℕ) → j < length cs → Bounded R (circle cs j .radius))
     (thick : (j : ℕ) → j < length cs → nat (pow2 e) ≺ units (circle cs j .radius))
-    (spans : AllSpan w axis (length cs) cs) (middle : (lo hi : Z) → ExactEnds axis cs lo hi → Within (lo ⊕ hi) m) where
+    (spans : AllSpan w axis (length cs) cs) (middle : (box : BoxOf axis (length cs) cs) → Within (box .lo ⊕ box .hi) m) where
   centre-bounded : (j : ℕ) → j < length cs → Bounded C (at axis cs j)
   centre-bounded j l =
-      let x = exact-ends axis cs (length cs - 1) (omega arith) in
-      let E = x .2 in
-      let a = E .low-at in
-      let b = E .high-at in
+      let box = box-of axis (length cs) cs some in
+      let a = box .lo-taken in
+      let b = box .hi-taken in
       record {
         fin = finite j l;
-        within = half-of (units (at axis cs j)) (units (circle cs j .radius)) (x .0) (x .1) (lower axis (circle cs (a .0))) (upper axis (circle cs (b .0))) (thick j l) (E .low-bounds j l) (E .high-bounds j l) (a .2) (b .2)
-            (spans (b .0) (a .0) (b .1) (a .1)) (middle (x .0) (x .1) E);
+        within = half-of (units (at axis cs j)) (units (circle cs j .radius)) (box .lo) (box .hi) (lower axis (circle cs (a .0))) (upper axis (circle cs (b .0))) (thick j l) (box .lo-bounds j l) (box .hi-bounds j l) (a .2) (b .2)
+            (spans (b .0) (a .0) (b .1) (a .1)) (middle box);
       }
     where
       half-of : (x r lo hi l u : Z) → nat (pow2 e) ≺ r → lo ≼ x ⊖ r → x ⊕ r ≼ hi → l ≼ lo → hi ≼ u → u ⊖ l ≼ nat w → Within (lo ⊕ hi) m → Within x C
@@ -89,14 +89,17 @@ module _ {h i o s n lines R e C line : ℕ} (b : SheetBudget h i o s n lines R e
     here : {j : ℕ} → j < length out → j < length cs
     here l = rw (A .sized) at l
 
+    there : {j : ℕ} → j < length cs → j < length out
+    there l = rw (A .sized) l
+
     on-axis : (axis : Point → Float) (k : ℕ) → 0 < k → k ≤ lines → ((j : ℕ) → j < length cs → Fin binary64 (at axis out j))
         → AllSpan (sheetRoom h i o s n k) axis (length cs) out
-        → ((lo hi : Z) → ExactEnds axis out lo hi → Within (lo ⊕ hi) (2 * pow2 i + 4 * pow2 o)) → {lo hi : Float} → EndsOf axis out always lo hi → Raises k (sub binary64 hi lo)
+        → ((box : BoxOf axis (length cs) out) → Within (box .lo ⊕ box .hi) (2 * pow2 i + 4 * pow2 o)) → {lo hi : Float} → EndsOf axis out always lo hi → Raises k (sub binary64 hi lo)
     on-axis axis k some most finite spans middle {lo} {hi} ends =
         side-raises k some most (sub binary64 hi lo)
         (box-side-upto e C R (sheetRoom h i o s n k) (2 * pow2 i + 4 * pow2 o) (b .te) (omega (arith, b .centres, mul-le-mul-right (lineWidth h s n + pow2 i) most)) (b .ends) axis out (rw (A .sized) (omega arith))
         (λ j l. finite j (here l)) (λ j l. rw (returned-radius A j (here l)) (radii j (here l))) (λ j l. rw (returned-radius A j (here l)) (thick j (here l)))
-        (λ j m l n. spans j m (here l) (here n)) middle ends)
+        (λ j m l n. spans j m (here l) (here n)) (λ box. middle (range-for (λ j l. here l) (λ j l. there l) box)) ends)
 
     across : Raises c (sub binary64 (sheet out .«x_max») (sheet out .«x_min»))
     across = on-axis xAxis c (grid .some-column) (grid .few-columns) (λ j l. A .finite j l .x) (A .span-x) (A .middle-x) (x-ends always out)

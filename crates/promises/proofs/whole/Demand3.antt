@@ -1,11 +1,16 @@
--- Demand 3, whole: of an accepted layout whose numbers are f64, the gap, the distance, the reach and the chain, at 2^-16.
-use mathlib.Core.Path.{_≡_, sym, _∙_, subst}
+-- What is promised, whole: of an accepted layout whose numbers are f64, the gap, the distance, the reach and the chain, and how the card hangs, at 2^-16, and at
+-- 2^-11 for level centres.
+use mathlib.Core.Path.{_≡_, refl, sym, _∙_, subst}
 use mathlib.Core.Logic.{inr}
 use mathlib.Core.List.{List}
-use Prim.Native.Nat.{ℕ, _+_, _≤_, _<_}
+use Prim.Native.Nat.{ℕ, _+_, _*_, _≤_, _<_}
+use native.Mathlib.Nat.{lt-trans, le-of-eq}
+use native.Mathlib.Omega.{arith}
 use lib.Dec.{T, lit≤}
 use lib.ListN.{length, getD}
 use lib.Ieee.{Float, binary64, fits}
+use Rattle.algebra.specs.Integer.{Z, Within, _⊖_}
+use Rattle.rounding.specs.Value.{Fin}
 use Rattle.rounding.specs.Scale.{pow2}
 use Rattle.shapes.specs.declared.circle.Circle.{Circle}
 use Rattle.scope.specs.Limits.{circleCap, radiusOk, factorOk}
@@ -14,28 +19,34 @@ use Rattle.scope.specs.Links.{Region, regions, circle}
 use Rattle.scope.specs.Groups.{Clusters, clusters}
 use Rattle.scope.specs.Tolerance.{tolerance}
 use Rattle.scope.specs.Offset.{offset}
-use Rattle.scope.specs.Gauge.{gauged}
+use Rattle.scope.specs.Gauge.{inCluster, gauged}
 use Rattle.scope.specs.Padding.{boxes, padding, packClusters}
 use Rattle.scope.specs.Centring.{centredLayout}
-use Rattle.scope.specs.Layout.{Layout, arranged}
-use Rattle.scope.specs.Promises.{Chain, Promises}
-use Rattle.promises.specs.Demand3.{AreDoubles, bound, gapBound, Demand3, GapKept, DistanceKept, ReachKept, ChainKept}
+use Rattle.scope.specs.Layout.{Result, Layout, arranged}
+use Rattle.scope.specs.Promises.{units, xAxis, yAxis, numberOf, FirstTwo, Chain, Promises}
+use Rattle.promises.specs.Demand3.{AreDoubles, bound, gapBound, Demand3, GapKept, DistanceKept, ReachKept, ChainKept, MiddleKept, FirstKept, LevelKept}
 use Rattle.laws.specs.Limits.{WithinLimits}
+use Rattle.laws.proofs.Cases.{eqb-iff}
 use Rattle.laws.proofs.Runs.{getD-filled-any}
+use Rattle.laws.proofs.FirstTwo.{two-lowest, has-first-two}
 use Rattle.laws.proofs.Numbering.{Numbering}
 use Rattle.laws.proofs.Clusters.{clusters-numbering, same-number-iff-chain, same-filled-number-iff-chain}
 use Rattle.laws.proofs.Accepted.{within-limits, layout-accepted-iff}
 use Rattle.laws.proofs.AfterRefusal.{layout-answers}
 use Rattle.promises.proofs.numbers.Ranges.{Sound, circle-accepted}
+use Rattle.promises.proofs.numbers.RangeOf.{Members}
 use Rattle.promises.proofs.gauge.Carried.{Shifted}
+use Rattle.promises.proofs.gauge.Hangs.{Hung, mirrorSlack}
+use Rattle.promises.proofs.gauge.HungCluster.{gaugeLevel}
 use Rattle.promises.proofs.gauge.AllClusters.{ClustersCarried, clusters-shifted}
 use Rattle.promises.proofs.offset.AfterOffset.{offset-length}
-use Rattle.promises.proofs.gauge.AfterGauge.{after-gauge-length, gauge-carries-clusters, gauge-keeps-radius, gauge-places, gauge-spread, shifts-error-small}
+use Rattle.promises.proofs.gauge.AfterGauge.{after-gauge-length, gauge-carries-clusters, gauge-hangs-clusters, gauge-keeps-radius, gauge-places, gauge-spread, shifts-error-small}
 use Rattle.promises.proofs.whole.Kept.{finite-kept, distance-promised, reach-promised}
 use Rattle.promises.proofs.packing.KeptGap.{apart-looser}
 use Rattle.promises.proofs.packing.Shift.{Step}
 use Rattle.promises.proofs.packing.Proportions.{Proportion, proportion-is}
-use Rattle.promises.proofs.whole.SixtyFour.{Gauged64, Arranged64, padding-64, proportion-arranged-64}
+use Rattle.promises.proofs.whole.SixtyFour.{Gauged64, Arranged64, middle-fits-64, first-fits-64, level-fits-64, padding-64, proportion-arranged-64}
+use Rattle.promises.proofs.whole.Hang.{centred-promised, arranged-hangs, not-past-promised}
 
 -- ---- the layout of accepted circles
 module _ (cs : List Circle) (rs : List Region) (factor : Float) (sound : (i : ℕ) → i < length cs → Sound (circle cs i)) (radius-fits : (i : ℕ) → i < length cs → T (fits binary64 (circle cs i .radius)))
@@ -107,7 +118,7 @@ module _ (cs : List Circle) (rs : List Region) (factor : Float) (sound : (i : �
         clusters-shifted (g .count) (g .numbers) before turned last 37 38 tt tt (packed .clusterX) (packed .clusterY) (packed .layoutX) (packed .layoutY) between first-shift second-shift
         (gauge-carries-clusters cs rs sound (g .count) (g .numbers))
 
-    gap-slack : gapBound ≤ bound
+    gap-slack : gapBound ≤ bound .near
     gap-slack = unfold pow2 in lit≤ tt
 
     numbered : (i : ℕ) → getD (filled circleCap 0 (g .numbers)) i 0 ≡ getD (g .numbers) i 0
@@ -119,9 +130,27 @@ module _ (cs : List Circle) (rs : List Region) (factor : Float) (sound : (i : �
     together : (i j : ℕ) → i < n → j < n → Chain n (tolerance rs) rs i j → getD (g .numbers) i 0 ≡ getD (g .numbers) j 0
     together i j hi hj c = same-number-iff-chain n rs (tolerance rs) i j hi hj .1 (inr c)
 
+    -- ---- how the card hangs
+    turned-finite : (k : ℕ) → k < length turned → Fin binary64 (circle turned k .center .x) × Fin binary64 (circle turned k .center .y)
+    turned-finite k l = let p = gauge-places cs rs sound (g .count) (g .numbers) (numbering .inside) k (below l) in (p .fin-x, p .fin-y)
+
+    -- the cluster of circle i, if i and j are its first two
+    hung : (result : Result) → ((k : ℕ) → numberOf result k ≡ getD (g .numbers) k 0) → (i j : ℕ) → FirstTwo n result i j
+        → Hung (mirrorSlack + 4 * (pow2 37 + pow2 38)) (gaugeLevel + 2 * (pow2 37 + pow2 38)) (Members (inCluster (g .numbers) (getD (g .numbers) i 0)) n)
+        (λ k. units (circle last k .center .x)) (λ k. units (circle last k .center .y)) i j
+    hung result named i j F =
+        let a = getD (g .numbers) i 0 in
+        let member = inCluster (g .numbers) a in
+        let in-cluster : (k : ℕ) → numberOf result k ≡ numberOf result i → T (member k) = λ k e. eqb-iff (getD (g .numbers) k 0) a .1 (sym (named k) ∙ e ∙ named i) in
+        let two = two-lowest member n i j (F .rising) (F .inside) (in-cluster i refl) (in-cluster j (F .together))
+        (λ k l t. F .no-other k l (named k ∙ eqb-iff (getD (g .numbers) k 0) a .0 t ∙ sym (named i))) in
+        let before = gauge-hangs-clusters cs rs sound (g .count) (g .numbers) a (numbering .inside i (lt-trans (F .rising) (F .inside))) (rw (two .1) (F .inside)) in
+        arranged-hangs {i = 37} {o = 38} tt tt packed (λ k l. turned-finite k l .0) (λ k l. turned-finite k l .1) a (le-of-eq (sym turned-length)) (rw (two .1, two .0) at before)
+
     pub arranged-promises : Promises bound cs rs (arranged proportion cs factor rs .result) (arranged proportion cs factor rs .circles)
     unfolding arranged
     arranged-promises =
+        let result = arranged proportion cs factor rs .result in
         record {
           padding = padding-64 handed-over factor factor-fits factor-ok .fin;
           finite = finite-kept cs rs sound (g .count) (g .numbers) last _ _ shifts-error-small (numbering .inside) together carried;
@@ -129,7 +158,16 @@ module _ (cs : List Circle) (rs : List Region) (factor : Float) (sound : (i : �
           distance = λ i j hi hj e. distance-promised cs rs sound (g .count) (g .numbers) last _ _ shifts-error-small (numbering .inside) together carried i j hi hj (same i j e);
           reach = reach-promised cs rs sound (g .count) (g .numbers) last _ _ shifts-error-small (numbering .inside) together carried;
           chain = λ i j hi hj. same-filled-number-iff-chain n rs (tolerance rs) i j hi hj circleCap;
+          middle = λ some. rw turned-length at (centred-promised {i = 37} {o = 38} tt tt packed (bound .near) middle-fits-64 (rw turned-length some));
+          first = λ i j F. let h = hung result numbered i j F in (
+            not-past-promised n (g .numbers) result numbered last (bound .near) (mirrorSlack + 4 * (pow2 37 + pow2 38)) first-fits-64 i xAxis (h .first-in) (h .across),
+            not-past-promised n (g .numbers) result numbered last (bound .near) (mirrorSlack + 4 * (pow2 37 + pow2 38)) first-fits-64 i yAxis (h .first-in) (h .up),
+          );
+          level = λ i j F. level-wider (units (circle last j .center .y) ⊖ units (circle last i .center .y)) (hung result numbered i j F .level);
         }
+      where
+        level-wider : (d : Z) → Within d (gaugeLevel + 2 * (pow2 37 + pow2 38)) → Within d (bound .level)
+        level-wider d w = omega (arith, level-fits-64)
 
 -- ---- of a call within the limits, whose floats are f64
 accepted-sound : (cs : List Circle) (factor : Float) (masks : List ℕ) (areas : List Float) → AreDoubles cs factor → WithinLimits cs factor masks areas → (i : ℕ) → i < length cs → Sound (circle cs i)
@@ -172,3 +210,25 @@ layout-reach cs factor masks areas proportion d fit h i hi moved =
 pub layout-chain : ChainKept
 unfolding ChainKept Demand3
 layout-chain cs factor masks areas proportion d fit h = layout-promises cs factor masks areas proportion d fit h .chain
+
+pub layout-middle : MiddleKept
+unfolding MiddleKept Demand3
+layout-middle cs factor masks areas proportion d fit h some =
+    let m = layout-promises cs factor masks areas proportion d fit h .middle some in
+    ((m .0 .box, omega (arith, m .0 .near), omega (arith, m .0 .near)), (m .1 .box, omega (arith, m .1 .near), omega (arith, m .1 .near)))
+
+pub layout-first : FirstKept
+unfolding FirstKept Demand3
+layout-first cs factor masks areas proportion d fit h i j hi hj apart same =
+    let p = layout-promises cs factor masks areas proportion d fit h in
+    let two = has-first-two (length cs) _ i j hi hj apart same in
+    let f = p .first (two .0) (two .1) (two .2) in
+    (two .0, two .1, two .2, two .3, ((f .0 .range, f .0 .not-past), (f .1 .range, f .1 .not-past)))
+
+pub layout-level : LevelKept
+unfolding LevelKept Demand3
+layout-level cs factor masks areas proportion d fit h i j hi hj apart same =
+    let p = layout-promises cs factor masks areas proportion d fit h in
+    let two = has-first-two (length cs) _ i j hi hj apart same in
+    let l = p .level (two .0) (two .1) (two .2) in
+    (two .0, two .1, two .2, two .3, (omega (arith, l), omega (arith, l)))

@@ -1,6 +1,7 @@
 -- Document 01's numbers: 64 circles with radii from 2^-20 to 2^20, sides of at most 2^23, padding of at most 2^26. Up to 16 columns and rows the gap is short
 -- of the padding by at most 2^-19, and no proportion from 1/4 to 4 makes more.
 use Prim.Native.Nat.{ℕ, _+_, _*_, _≤_, _<_}
+use native.Mathlib.Nat.{le-trans}
 use native.Mathlib.Omega.{arith}
 use mathlib.Core.Path.{_≡_}
 use mathlib.Core.List.{List}
@@ -15,11 +16,13 @@ use Rattle.scope.specs.Links.{circle}
 use Rattle.scope.specs.Groups.{Clusters}
 use Rattle.scope.specs.Packing.{columns, rows, rectangle}
 use Rattle.scope.specs.Padding.{boxes, padding}
-use Rattle.scope.specs.Promises.{units}
-use Rattle.promises.specs.Demand3.{gapBound}
+use Rattle.scope.specs.Promises.{units, Slack}
+use Rattle.promises.specs.Demand3.{bound, gapBound}
 use Rattle.laws.proofs.Numbering.{Numbering, numberIn}
 use Rattle.promises.proofs.numbers.Bounded.{Bounded, Upto}
 use Rattle.promises.proofs.numbers.InRange.{radius-bounded, radius-at-least, radius-lifted, factor-bounded, factor-not-negative}
+use Rattle.promises.proofs.gauge.Hangs.{mirrorSlack}
+use Rattle.promises.proofs.gauge.HungCluster.{gaugeLevel}
 use Rattle.promises.proofs.packing.Columns.{GridFits}
 use Rattle.promises.proofs.packing.Proportions.{Proportion, grid-fits-64}
 use Rattle.promises.proofs.packing.ClusterBoxes.{Clustered}
@@ -47,10 +50,39 @@ budget64 = record {
   slack = lit≤ tt;
 }
 
--- so `middle-x` and `middle-y` put the middle of the box within 2^-20 of the origin (for request 7 of document 02)
-pub middle-fits-64 : 2 * pow2 37 + 4 * pow2 38 ≤ 2 * pow2 40
+-- ---- how a card hangs, at these numbers: the middle and the first centre within 2^-20, level centres within 441 * 2^-20
+abbrev pub hang64 : Slack
+hang64 = record { near = pow2 40; level = 441 * pow2 40 }
+
+middle-is-64 : 2 * pow2 37 + 4 * pow2 38 ≤ 2 * hang64 .near
 unfolding pow2
-middle-fits-64 = lit≤ tt
+middle-is-64 = lit≤ tt
+
+first-is-64 : mirrorSlack + 4 * (pow2 37 + pow2 38) ≤ 2 * hang64 .near
+unfolding pow2
+first-is-64 = lit≤ tt
+
+level-is-64 : gaugeLevel + 2 * (pow2 37 + pow2 38) ≤ hang64 .level
+unfolding pow2
+level-is-64 = lit≤ tt
+
+-- a sixteenth of what is promised, and 441 of 512 parts
+near-promised : 16 * hang64 .near ≤ bound .near
+unfolding pow2
+near-promised = lit≤ tt
+
+level-promised : hang64 .level ≤ bound .level
+unfolding pow2
+level-promised = lit≤ tt
+
+pub middle-fits-64 : 2 * pow2 37 + 4 * pow2 38 ≤ 2 * bound .near
+middle-fits-64 = omega (arith, middle-is-64, near-promised)
+
+pub first-fits-64 : mirrorSlack + 4 * (pow2 37 + pow2 38) ≤ 2 * bound .near
+first-fits-64 = omega (arith, first-is-64, near-promised)
+
+pub level-fits-64 : gaugeLevel + 2 * (pow2 37 + pow2 38) ≤ bound .level
+level-fits-64 = le-trans level-is-64 level-promised
 
 -- what packing and centring make of the circles, at these numbers
 abbrev pub Arranged64 : Float → ℕ → List ℕ → Float → List Circle → Type 0
