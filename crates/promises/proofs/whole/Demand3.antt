@@ -223,7 +223,7 @@ layout-first cs factor masks areas proportion d fit h i j hi hj apart same =
     let p = layout-promises cs factor masks areas proportion d fit h in
     let two = has-first-two (length cs) _ i j hi hj apart same in
     let f = p .first (two .0) (two .1) (two .2) in
-    (two .0, two .1, two .2, two .3, ((f .0 .range, f .0 .not-past), (f .1 .range, f .1 .not-past)))
+    (two .0, two .1, two .2, two .3, ((f .0 .range, omega (arith, f .0 .not-past)), (f .1 .range, omega (arith, f .1 .not-past))))
 
 pub layout-level : LevelKept
 unfolding LevelKept Demand3
