@@ -1,95 +1,75 @@
--- The box of a cluster's centres: where a member stands, the fold from infinity has finite ends, each that of a member, and so the middles that the mirrors take are finite and in range.
-use mathlib.Core.Path.{_≡_, refl, sym, subst}
-use mathlib.Core.Logic.{_⊎_, inl, inr}
+-- The box of a cluster's centres, on one axis: its ends are folds of the centres, so each is that of a member and bounds them all, and the middle that the mirror
+-- takes is finite, in range, and half of their sum up to a rounding.
+use mathlib.Core.Path.{_≡_, refl}
 use mathlib.Core.Bool.{Bool, true, false}
-use Prim.Native.Nat.{ℕ, zero, suc, _*_, _<_}
+use mathlib.Core.List.{List}
+use Prim.Native.Nat.{ℕ, _*_, _<_}
 use native.Mathlib.Omega.{arith}
-use native.Mathlib.Decide.{decLt}
 use lib.Dec.{T}
-use lib.Ieee.{Float, nan, inf, fin, binary64, lt}
-use Rattle.algebra.specs.Integer.{Z, _⊕_, Within, Near}
-use Rattle.rounding.specs.Value.{val, Fin}
+use lib.ListN.{length}
+use lib.Ieee.{Float, inf}
+use Rattle.algebra.specs.Integer.{Z, Within, Near, _⊕_}
 use Rattle.rounding.specs.Scale.{pow2}
 use Rattle.rounding.specs.Extremes.{minimum, maximum}
 use Rattle.rounding.proofs.Double.{add64, pow2-scale}
-use Rattle.rounding.proofs.Halve.{over-two}
-use Rattle.rounding.proofs.Extremes.{minimum-either, maximum-either}
 use Rattle.shapes.specs.declared.bounds.Bounds.{Bounds}
+use Rattle.shapes.specs.declared.circle.Circle.{Circle}
 use Rattle.shapes.specs.Boxes.{unionOf}
-use Rattle.scope.specs.Numbers.{_+ᶠ_, _/ᶠ_, two}
+use Rattle.scope.specs.Numbers.{_+ᶠ_}
 use Rattle.scope.specs.Runs.{gather}
-use Rattle.scope.specs.Gauge.{nothing, middle}
+use Rattle.scope.specs.Links.{circle}
+use Rattle.scope.specs.Gauge.{nothing, pointBox, centresBox, middle, middleX, middleY}
 use Rattle.scope.specs.Promises.{units}
-use Rattle.promises.proofs.numbers.Bounded.{Bounded, two-finite, two-sign, two-size}
-use Rattle.laws.proofs.Cases.{tested}
-use Rattle.laws.proofs.Runs.{gather-takes, gather-leaves, gather-keeps}
+use Rattle.promises.proofs.numbers.Bounded.{Bounded, half-is, middle-is}
+use Rattle.promises.proofs.packing.Folds.{Up, Down, Extreme, gather-part, attained-has, minimum-extreme, maximum-extreme}
 
--- ---- from infinity, the first value taken is the end
-pub minimum-from-infinity : (x : Float) → Fin binary64 x → minimum (inf false) x ≡ x
-unfolding minimum lt Fin
-minimum-from-infinity nan p = absurd p
-minimum-from-infinity (inf s) p = absurd p
-minimum-from-infinity (fin s m e) p = refl
+-- ---- the middle of some centres, and that of the box's ends is it
+abbrev pub middleOf : (ℕ → Bool) → ℕ → (ℕ → Float) → Float
+middleOf member n x = middle (gather minimum (inf false) member n x) (gather maximum (inf true) member n x)
 
-pub maximum-from-infinity : (x : Float) → Fin binary64 x → maximum (inf true) x ≡ x
-unfolding maximum lt Fin
-maximum-from-infinity nan p = absurd p
-maximum-from-infinity (inf s) p = absurd p
-maximum-from-infinity (fin s m e) p = refl
+module _ (member : ℕ → Bool) (cs : List Circle) where
+  end-is : (op : Float → Float → Float) (end : Bounds → Float) → ((a b : Bounds) → end (unionOf a b) ≡ op (end a) (end b))
+      → end (centresBox member cs) ≡ gather op (end nothing) member (length cs) (λ k. end (pointBox (circle cs k .center)))
+  unfolding centresBox
+  end-is op end h = gather-part unionOf op end end h nothing member (length cs) (λ k. pointBox (circle cs k .center))
 
--- ---- boxes
-pub record EndsInside (b : ℕ) (box : Bounds) : Type 0 where
-  pub x-min : Bounded b (box .«x_min»)
-  pub x-max : Bounded b (box .«x_max»)
-  pub y-min : Bounded b (box .«y_min»)
-  pub y-max : Bounded b (box .«y_max»)
+  pub middle-x-is : middleX (centresBox member cs) ≡ middleOf member (length cs) (λ k. circle cs k .center .x)
+  unfolding nothing
+  middle-x-is = rw (end-is minimum (λ b. b .«x_min») (λ a b. refl), end-is maximum (λ b. b .«x_max») (λ a b. refl))
 
--- before a member is taken, and after
-abbrev SoFar : ℕ → Bounds → Type 0
-SoFar b box = (box ≡ nothing) ⊎ EndsInside b box
+  pub middle-y-is : middleY (centresBox member cs) ≡ middleOf member (length cs) (λ k. circle cs k .center .y)
+  unfolding nothing
+  middle-y-is = rw (end-is minimum (λ b. b .«y_min») (λ a b. refl), end-is maximum (λ b. b .«y_max») (λ a b. refl))
 
-taken-first : (b : ℕ) (c : Bounds) → EndsInside b c → EndsInside b (unionOf nothing c)
-unfolding nothing
-taken-first b c h = record {
-  x-min = rw (minimum-from-infinity (c .«x_min») (h .x-min .fin)) (h .x-min);
-  x-max = rw (maximum-from-infinity (c .«x_max») (h .x-max .fin)) (h .x-max);
-  y-min = rw (minimum-from-infinity (c .«y_min») (h .y-min .fin)) (h .y-min);
-  y-max = rw (maximum-from-infinity (c .«y_max») (h .y-max .fin)) (h .y-max);
-}
+-- ---- centres within 2^25, of which i is a member's
+module _ (member : ℕ → Bool) (n : ℕ) (x : ℕ → Float) (inside : (k : ℕ) → k < n → T (member k) → Bounded (pow2 85) (x k)) (i : ℕ) (l : i < n) (t : T (member i)) where
+  abbrev lo : Float
+  lo = gather minimum (inf false) member n x
 
-taken : (b : ℕ) (a c : Bounds) → SoFar b a → EndsInside b c → EndsInside b (unionOf a c)
-taken b a c (inl e) h = subst (λ (z : Bounds). EndsInside b (unionOf z c)) (sym e) (taken-first b c h)
-taken b a c (inr g) h = record {
-  x-min = minimum-either (Bounded b) (a .«x_min») (c .«x_min») (g .x-min) (h .x-min);
-  x-max = maximum-either (Bounded b) (a .«x_max») (c .«x_max») (g .x-max) (h .x-max);
-  y-min = minimum-either (Bounded b) (a .«y_min») (c .«y_min») (g .y-min) (h .y-min);
-  y-max = maximum-either (Bounded b) (a .«y_max») (c .«y_max») (g .y-max) (h .y-max);
-}
+  abbrev hi : Float
+  hi = gather maximum (inf true) member n x
 
--- the union of the boxes that `member` takes, where it takes one
-pub union-inside : (b : ℕ) (member : ℕ → Bool) (n : ℕ) (f : ℕ → Bounds) → ((i : ℕ) → i < n → T (member i) → EndsInside b (f i)) → (k : ℕ) → k < n → T (member k) → EndsInside b (gather unionOf nothing member n f)
-union-inside b member zero f h k l t = absurd (omega arith)
-union-inside b member (suc n) f h k l t =
-    let before : SoFar b (gather unionOf nothing member n f) = gather-keeps unionOf nothing (SoFar b) member n f (inl refl) (λ i a j u s. inr (taken b a (f i) s (h i (omega arith) u))) in
-    elim (tested (member n)) [
-      | yes u ↦ rw (gather-takes unionOf nothing member n f u) (taken b (gather unionOf nothing member n f) (f n) before (h n (omega arith) u))
-      | no u ↦ rw (gather-leaves unionOf nothing member n f u) (union-inside b member n f (λ i j. h i (omega arith)) k (below u) t)
-    ]
-  where
-    below : ¬ T (member n) → k < n
-    below u = elim (decLt k n) [ yes j ↦ j | no j ↦ let e : k ≡ n = omega arith in absurd (u (rw e at t)) ]
+  pub lowest : Extreme Down member n x lo
+  lowest = minimum-extreme member n x (λ k h u. inside k h u .fin) i l t
 
--- ---- the middle of two ends within 2^25
-half-within : (z : Z) (s : Z) (b : ℕ) → Near (z ⊕ z) s 1 → Within s (2 * b) → Within z b
-half-within z s b h w = omega arith
+  pub highest : Extreme Up member n x hi
+  highest = maximum-extreme member n x (λ k h u. inside k h u .fin) i l t
 
-halved-near : (x : Float) → Fin binary64 x → Fin binary64 (x /ᶠ two) × Near (units (x /ᶠ two) ⊕ units (x /ᶠ two)) (units x) 1
-unfolding val
-halved-near x p = let h = over-two binary64 x two p two-finite two-sign two-size in (h .fin, h .near)
+  lo-bounded : Bounded (pow2 85) lo
+  lo-bounded = attained-has (Bounded (pow2 85)) (lowest .attained) inside
 
-pub middle-inside : (lo hi : Float) → Bounded (pow2 85) lo → Bounded (pow2 85) hi → Bounded (pow2 85) (middle lo hi)
-middle-inside lo hi p q =
-    let s = add64 32 tt lo hi (p .fin) (q .fin) (omega (arith, p .within, q .within, pow2-scale 85 1)) in
-    let sum-within : Within (units (lo +ᶠ hi)) (2 * pow2 85) = let w = s .within in omega (arith, pow2-scale 85 1) in
-    let h = halved-near (lo +ᶠ hi) (s .fin) in
-    record { fin = h .0; within = half-within (units (middle lo hi)) (units (lo +ᶠ hi)) (pow2 85) (h .1) sum-within }
+  hi-bounded : Bounded (pow2 85) hi
+  hi-bounded = attained-has (Bounded (pow2 85)) (highest .attained) inside
+
+  pub middle-near : Near (units (middleOf member n x) ⊕ units (middleOf member n x)) (units lo ⊕ units hi) (2 * pow2 32)
+  middle-near = middle-is 32 tt (pow2 85) (omega (arith, pow2-scale 85 1)) lo hi lo-bounded hi-bounded .1
+
+  -- a rounded sum does not leave the range that the exact one is in, nor does its half
+  pub middle-inside : Bounded (pow2 85) (middleOf member n x)
+  middle-inside =
+      let s = add64 32 tt lo hi (lo-bounded .fin) (hi-bounded .fin) (omega (arith, lo-bounded .within, hi-bounded .within, pow2-scale 85 1)) in
+      let h = half-is (lo +ᶠ hi) (s .fin) in
+      record { fin = h .fin; within = half-within (units (middle lo hi)) (units (lo +ᶠ hi)) (h .near) (s .within) }
+    where
+      half-within : (z s : Z) → Near (z ⊕ z) s 1 → Within s (pow2 86) → Within z (pow2 85)
+      half-within z s h w = omega (arith, pow2-scale 85 1)

@@ -16,7 +16,7 @@ use Rattle.shapes.specs.declared.bounds.Bounds.{Bounds}
 use Rattle.shapes.specs.declared.circle.Circle.{Circle}
 use Rattle.scope.specs.Numbers.{_-ᶠ_, _<ᶠ_}
 use Rattle.scope.specs.Links.{circle, nowhere}
-use Rattle.scope.specs.Gauge.{changed, level, turn, rotated, turned, pointBox, centresBox, middleX, middleY, mirrorX, mirrorY, mirroredX, mirroredY, mirrored, rotateCluster}
+use Rattle.scope.specs.Gauge.{changed, level, turn, rotated, turned, centresBox, middleX, middleY, mirrorX, mirrorY, mirroredX, mirroredY, mirrored, rotateCluster}
 use Rattle.laws.proofs.Cases.{and-iff, tested, is-true, is-false}
 use Rattle.laws.proofs.Runs.{length-tab, getD-tab, getD-tab-past, least-passes, least-below}
 use Rattle.laws.proofs.FirstTwo.{firstOf, secondOf}
@@ -24,8 +24,7 @@ use Rattle.promises.proofs.gauge.Turn.{turn-is-unit, not-level-some}
 use Rattle.promises.proofs.gauge.Carried.{Motion, Carried, StandsWithin, centreBound, in-reach-of-turn, carried-loosely, still, stays}
 use Rattle.promises.proofs.gauge.Rotate.{turnAbout, rotation-carries}
 use Rattle.promises.proofs.gauge.Mirror.{applied, mirroredBy, mirrors-carry}
-use Rattle.promises.proofs.gauge.Centres.{EndsInside, union-inside, middle-inside}
-use Rattle.promises.proofs.numbers.Bounded.{Bounded}
+use Rattle.promises.proofs.gauge.Centres.{middle-x-is, middle-y-is, middle-inside}
 
 -- ---- the circles of a cluster changed, where b says so
 module _ (member : ℕ → Bool) (f : Circle → Circle) (cs : List Circle) where
@@ -157,17 +156,9 @@ module _ (member : ℕ → Bool) (i : ℕ) (cs : List Circle) where
   mirrored-carries : {g : Motion} {e : ℕ} (from : List Circle) → length from ≡ length cs → AllPlaced member from → AllCarried g e (pow2 85) member from cs → (k : ℕ) → k < length from → T (member k)
       → (h : Motion) × AllCarried h (e + pow2 33) (pow2 87) member from (mirrored member i cs)
   mirrored-carries {g} {e} from same placed carried k l t =
-      let ends : EndsInside (pow2 85) box =
-      unfold centresBox in
-      union-inside (pow2 85) member (length cs) (λ j. pointBox (circle cs j .center))
-      (λ j h m.
-      let a = carried j (rw same h) m in
-      let x : Bounded (pow2 85) (circle cs j .center .x) = record { fin = a .x .fin; within = a .x .within } in
-      let y : Bounded (pow2 85) (circle cs j .center .y) = record { fin = a .y .fin; within = a .y .within } in
-      record { x-min = x; x-max = x; y-min = y; y-max = y })
-      k (rw (← same) l) t in
-      let mx = middle-inside (box .«x_min») (box .«x_max») (ends .x-min) (ends .x-max) in
-      let my = middle-inside (box .«y_min») (box .«y_max») (ends .y-min) (ends .y-max) in (
+      let below : k < length cs = rw (← same) l in
+      let mx = rw (← middle-x-is member cs) at (middle-inside member (length cs) (λ j. circle cs j .center .x) (λ j h m. let a = carried j (rw same h) m .x in record { fin = a .fin; within = a .within }) k below t) in
+      let my = rw (← middle-y-is member cs) at (middle-inside member (length cs) (λ j. circle cs j .center .y) (λ j h m. let a = carried j (rw same h) m .y in record { fin = a .fin; within = a .within }) k below t) in (
         mirroredBy g inX (middleX box) inY (middleY box),
         λ j h m.
             rw (mirrored-member j (rw (← same) h) m)

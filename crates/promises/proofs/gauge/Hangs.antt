@@ -9,21 +9,18 @@ use lib.Dec.{T}
 use lib.Ieee.{Float, inf, binary64}
 use Rattle.algebra.specs.Integer.{Z, nat, Within, Near, _⊕_, _⊖_, _⊗_, _≼_, _≺_}
 use Rattle.algebra.proofs.Size.{either}
-use Rattle.rounding.specs.Value.{Fin}
 use Rattle.rounding.specs.Scale.{pow2}
 use Rattle.rounding.specs.Extremes.{minimum, maximum}
-use Rattle.rounding.proofs.Double.{pow2-scale}
 use Rattle.rounding.proofs.Order.{lt-is}
 use Rattle.scope.specs.Numbers.{_-ᶠ_, _*ᶠ_, _<ᶠ_, two}
 use Rattle.scope.specs.Runs.{gather}
-use Rattle.scope.specs.Gauge.{middle}
 use Rattle.scope.specs.Promises.{units, Range}
 use Rattle.laws.proofs.Cases.{tested, is-true, is-false}
-use Rattle.promises.proofs.numbers.Bounded.{Bounded, middle-is, middle-bounded}
+use Rattle.promises.proofs.numbers.Bounded.{Bounded}
 use Rattle.promises.proofs.numbers.RangeOf.{Members}
-use Rattle.promises.proofs.gauge.Centres.{middle-inside}
+use Rattle.promises.proofs.gauge.Centres.{middleOf, lowest, highest, middle-near, middle-inside}
 use Rattle.promises.proofs.gauge.Mirror.{reflected}
-use Rattle.promises.proofs.packing.Folds.{Up, Down, Extreme, attained-has, minimum-extreme, maximum-extreme}
+use Rattle.promises.proofs.packing.Folds.{Up, Down, Extreme}
 
 -- Of the numbers x of which P holds, the one at i is at most s/2 past the middle of their range: the inequality holds with one of them as the upper end and with
 -- any of them as the lower.
@@ -96,62 +93,48 @@ hung-shifted {x = x} {y = y} {x' = x'} {y' = y'} K L e near-x near-y h = record 
 abbrev pub mirrorSlack : ℕ
 mirrorSlack = 4 * pow2 33 + 2 * pow2 32
 
-abbrev pub middleOf : (ℕ → Bool) → ℕ → (ℕ → Float) → Float
-middleOf member n x = middle (gather minimum (inf false) member n x) (gather maximum (inf true) member n x)
-
 abbrev pub mirroredAt : (ℕ → Bool) → ℕ → (ℕ → Float) → ℕ → ℕ → Float
 mirroredAt member n x i k = cond (middleOf member n x <ᶠ x i) (two *ᶠ middleOf member n x -ᶠ x k) (x k)
 
 module _ (member : ℕ → Bool) (n : ℕ) (x : ℕ → Float) (inside : (k : ℕ) → k < n → T (member k) → Bounded (pow2 85) (x k)) (i : ℕ) (l : i < n) (t : T (member i)) where
-  abbrev lo : Float
-  lo = gather minimum (inf false) member n x
-
-  abbrev hi : Float
-  hi = gather maximum (inf true) member n x
-
   abbrev m : Float
-  m = middle lo hi
+  m = middleOf member n x
 
-  lowest : Extreme Down member n x lo
-  lowest = minimum-extreme member n x (λ k h u. inside k h u .fin) i l t
+  least : Extreme Down member n x (gather minimum (inf false) member n x)
+  least = lowest member n x inside i l t
 
-  highest : Extreme Up member n x hi
-  highest = maximum-extreme member n x (λ k h u. inside k h u .fin) i l t
-
-  lo-bounded : Bounded (pow2 85) lo
-  lo-bounded = attained-has (Bounded (pow2 85)) (lowest .attained) inside
-
-  hi-bounded : Bounded (pow2 85) hi
-  hi-bounded = attained-has (Bounded (pow2 85)) (highest .attained) inside
+  greatest : Extreme Up member n x (gather maximum (inf true) member n x)
+  greatest = highest member n x inside i l t
 
   m-bounded : Bounded (pow2 85) m
-  m-bounded = middle-inside lo hi lo-bounded hi-bounded
-
-  m-near : Near (units m ⊕ units m) (units lo ⊕ units hi) (2 * pow2 32)
-  m-near = middle-is 32 tt (pow2 85) (omega (arith, pow2-scale 85 1)) lo hi lo-bounded hi-bounded .1
+  m-bounded = middle-inside member n x inside i l t
 
   flipped : (k : ℕ) → k < n → T (member k) → Near (units (two *ᶠ m -ᶠ x k)) (units m ⊕ units m ⊖ units (x k)) (pow2 33)
   flipped k h u = reflected m (m-bounded .fin) (m-bounded .within) (x k) (inside k h u)
 
   pub mirror-not-beyond : NotBeyond mirrorSlack (Members member n) (λ k. units (mirroredAt member n x i k)) i
-  mirror-not-beyond = elim (tested (m <ᶠ x i)) [
-    | yes h ↦
-        let b = lowest .attained in
-        let past = lt-is binary64 m (x i) (m-bounded .fin) (inside i l t .fin) .0 h in
-        rw (is-true (m <ᶠ x i) h)
-        (record {
-          upper = b .at;
-          upper-in = (b .below, b .takes);
-          most = λ a q.
-              over (units m) (units lo) (units hi) (units (x i)) (units (x a)) (units (x (b .at))) (units (two *ᶠ m -ᶠ x i)) (units (two *ᶠ m -ᶠ x a)) (units (two *ᶠ m -ᶠ x (b .at)))
-              m-near past (highest .bounds a (q .0) (q .1)) (rw (b .is) refl) (flipped i l t) (flipped a (q .0) (q .1)) (flipped (b .at) (b .below) (b .takes));
-        })
-    | no h ↦
-        let b = highest .attained in
-        let before = not-past (units m) (units (x i)) (λ p. h (lt-is binary64 m (x i) (m-bounded .fin) (inside i l t .fin) .1 p)) in
-        rw (is-false (m <ᶠ x i) h)
-        (record { upper = b .at; upper-in = (b .below, b .takes); most = λ a q. under (units m) (units lo) (units hi) (units (x i)) (units (x a)) (units (x (b .at))) m-near before (lowest .bounds a (q .0) (q .1)) (rw (b .is) refl) })
-  ]
+  mirror-not-beyond =
+      let lo = gather minimum (inf false) member n x in
+      let hi = gather maximum (inf true) member n x in
+      let near = middle-near member n x inside i l t in
+      elim (tested (m <ᶠ x i)) [
+        | yes h ↦
+            let b = least .attained in
+            let past = lt-is binary64 m (x i) (m-bounded .fin) (inside i l t .fin) .0 h in
+            rw (is-true (m <ᶠ x i) h)
+            (record {
+              upper = b .at;
+              upper-in = (b .below, b .takes);
+              most = λ a q.
+                  over (units m) (units lo) (units hi) (units (x i)) (units (x a)) (units (x (b .at))) (units (two *ᶠ m -ᶠ x i)) (units (two *ᶠ m -ᶠ x a)) (units (two *ᶠ m -ᶠ x (b .at)))
+                  near past (greatest .bounds a (q .0) (q .1)) (rw (b .is) refl) (flipped i l t) (flipped a (q .0) (q .1)) (flipped (b .at) (b .below) (b .takes));
+            })
+        | no h ↦
+            let b = greatest .attained in
+            let before = not-past (units m) (units (x i)) (λ p. h (lt-is binary64 m (x i) (m-bounded .fin) (inside i l t .fin) .1 p)) in
+            rw (is-false (m <ᶠ x i) h)
+            (record { upper = b .at; upper-in = (b .below, b .takes); most = λ a q. under (units m) (units lo) (units hi) (units (x i)) (units (x a)) (units (x (b .at))) near before (least .bounds a (q .0) (q .1)) (rw (b .is) refl) })
+      ]
     where
       over : (m lo hi u v w u' v' w' : Z) → Near (m ⊕ m) (lo ⊕ hi) (2 * pow2 32) → m ≺ u → v ≼ hi → lo ≡ w → Near u' (m ⊕ m ⊖ u) (pow2 33) → Near v' (m ⊕ m ⊖ v) (pow2 33) → Near w' (m ⊕ m ⊖ w) (pow2 33)
           → nat 2 ⊗ u' ≼ v' ⊕ w' ⊕ nat mirrorSlack

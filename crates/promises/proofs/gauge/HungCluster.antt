@@ -6,27 +6,23 @@ use Prim.Native.Nat.{ℕ, _+_, _*_, _≤_, _<_}
 use native.Mathlib.Omega.{arith}
 use lib.Dec.{T, eqb, ltb, ltb→lt, lit≤}
 use lib.ListN.{length}
-use lib.Ieee.{Float, binary64}
+use lib.Ieee.{Float}
 use Rattle.algebra.specs.Integer.{Z, Within, _⊖_}
 use Rattle.rounding.specs.Scale.{pow2}
-use Rattle.rounding.specs.Extremes.{minimum, maximum}
-use Rattle.shapes.specs.declared.bounds.Bounds.{Bounds}
 use Rattle.shapes.specs.declared.circle.Circle.{Circle}
-use Rattle.shapes.specs.Boxes.{unionOf}
 use Rattle.scope.specs.Numbers.{_-ᶠ_, _*ᶠ_, _<ᶠ_, two}
-use Rattle.scope.specs.Runs.{gather}
 use Rattle.scope.specs.Links.{circle}
-use Rattle.scope.specs.Gauge.{level, turn, rotated, turned, nothing, pointBox, centresBox, middleX, middleY, mirrorX, mirrorY, mirrored, rotateCluster}
+use Rattle.scope.specs.Gauge.{level, turn, rotated, turned, middleX, middleY, mirrorX, mirrorY, mirrored, rotateCluster}
 use Rattle.scope.specs.Promises.{units}
 use Rattle.laws.proofs.Cases.{and-iff, tested}
 use Rattle.laws.proofs.Runs.{least-passes, least-below}
 use Rattle.promises.proofs.numbers.Bounded.{Bounded}
-use Rattle.promises.proofs.packing.Folds.{gather-part}
 use Rattle.promises.proofs.numbers.RangeOf.{Members}
 use Rattle.promises.proofs.gauge.Carried.{StandsWithin, centreBound}
 use Rattle.promises.proofs.gauge.Mirror.{applied}
+use Rattle.promises.proofs.gauge.Centres.{middle-x-is, middle-y-is}
 use Rattle.promises.proofs.gauge.Level.{levelBound, level-without-turn, level-after-turn}
-use Rattle.promises.proofs.gauge.Hangs.{Hung, hung-same, mirrorSlack, middleOf, mirroredAt, mirror-not-beyond, mirror-keeps-level}
+use Rattle.promises.proofs.gauge.Hangs.{Hung, hung-same, mirrorSlack, mirroredAt, mirror-not-beyond, mirror-keeps-level}
 use Rattle.promises.proofs.gauge.Cluster.{AllPlaced, first, second, box, inX, inY, half-way, changed-member, turned-level, turned-steep, turned-length, turned-carries, half-way-member, mirrored-member, rotate-two}
 
 -- ---- where the mirrors put a centre
@@ -52,19 +48,6 @@ module _ (member : ℕ → Bool) (i : ℕ) (cs : List Circle) (l : i < length cs
   abbrev ys : ℕ → Float
   ys k = circle cs k .center .y
 
-  end-is : (op : Float → Float → Float) (end : Bounds → Float) → ((a b : Bounds) → end (unionOf a b) ≡ op (end a) (end b))
-      → end (box member i cs) ≡ gather op (end nothing) member (length cs) (λ k. end (pointBox (circle cs k .center)))
-  unfolding centresBox
-  end-is op end h = gather-part unionOf op end end h nothing member (length cs) (λ k. pointBox (circle cs k .center))
-
-  middle-x-is : middleX (box member i cs) ≡ middleOf member (length cs) xs
-  unfolding nothing
-  middle-x-is = rw (end-is minimum (λ b. b .«x_min») (λ a b. refl), end-is maximum (λ b. b .«x_max») (λ a b. refl))
-
-  middle-y-is : middleY (box member i cs) ≡ middleOf member (length cs) ys
-  unfolding nothing
-  middle-y-is = rw (end-is minimum (λ b. b .«y_min») (λ a b. refl), end-is maximum (λ b. b .«y_max») (λ a b. refl))
-
   -- the mirror in x leaves the heights
   half-way-y : circle (half-way member i cs) i .center .y ≡ ys i
   half-way-y = ap (λ (c : Circle). c .center .y) (half-way-member member i cs i l t) ∙ mirrored-y-is (inX member i cs) false (middleX (box member i cs)) (middleY (box member i cs)) (circle cs i)
@@ -73,14 +56,14 @@ module _ (member : ℕ → Bool) (i : ℕ) (cs : List Circle) (l : i < length cs
   mirrored-x k h =
       ap (λ (c : Circle). c .center .x) (mirrored-member member i cs k (h .0) (h .1))
       ∙ mirrored-x-is (inX member i cs) (inY member i cs) (middleX (box member i cs)) (middleY (box member i cs)) (circle cs k)
-      ∙ ap (λ (m : Float). cond (m <ᶠ xs i) (two *ᶠ m -ᶠ xs k) (xs k)) middle-x-is
+      ∙ ap (λ (m : Float). cond (m <ᶠ xs i) (two *ᶠ m -ᶠ xs k) (xs k)) (middle-x-is member cs)
 
   mirrored-y : (k : ℕ) → Members member (length cs) k → circle (mirrored member i cs) k .center .y ≡ mirroredAt member (length cs) ys i k
   mirrored-y k h =
       ap (λ (c : Circle). c .center .y) (mirrored-member member i cs k (h .0) (h .1))
       ∙ mirrored-y-is (inX member i cs) (inY member i cs) (middleX (box member i cs)) (middleY (box member i cs)) (circle cs k)
       ∙ ap (λ (y : Float). cond (middleY (box member i cs) <ᶠ y) (two *ᶠ middleY (box member i cs) -ᶠ ys k) (ys k)) half-way-y
-      ∙ ap (λ (m : Float). cond (m <ᶠ ys i) (two *ᶠ m -ᶠ ys k) (ys k)) middle-y-is
+      ∙ ap (λ (m : Float). cond (m <ᶠ ys i) (two *ᶠ m -ᶠ ys k) (ys k)) (middle-y-is member cs)
 
   mirrors-hang : ((k : ℕ) → k < length cs → T (member k) → Bounded (pow2 85) (xs k)) → ((k : ℕ) → k < length cs → T (member k) → Bounded (pow2 85) (ys k)) → (j : ℕ) → Members member (length cs) j
       → {v : ℕ} → Within (units (ys j) ⊖ units (ys i)) v

@@ -1,6 +1,6 @@
 -- The second centre comes out of the turn level with the first. Where no turn is made its height differs by at most 1e-10 times dx, and dx is at most twice what
 -- the offset step leaves of a coordinate; a turn leaves roundings alone.
-use mathlib.Core.Path.{_≡_, refl, subst}
+use mathlib.Core.Path.{_≡_, refl}
 use mathlib.Core.Logic.{inl, inr}
 use mathlib.Core.Bool.{false, _&&_}
 use Prim.Native.Nat.{ℕ, _+_, _*_, _≤_, _<_}
@@ -10,10 +10,10 @@ use lib.Dec.{T, lit≤}
 use lib.Ieee.{Float, binary64, eq, fits, ofBits}
 use Rattle.algebra.specs.Integer.{Z, nat, Within, Near, _⊕_, _⊖_, _⊗_, _≈_, _≼_}
 use Rattle.algebra.proofs.Size.{within-mul, within-difference}
-use Rattle.rounding.specs.Value.{mag, negative, val, Fin}
+use Rattle.rounding.specs.Value.{mag, negative, Fin}
 use Rattle.rounding.specs.Scale.{pow2}
 use Rattle.rounding.proofs.Value.{val-mag}
-use Rattle.rounding.proofs.Double.{Close, sub64, mul64, pow2-scale}
+use Rattle.rounding.proofs.Double.{sub64, mul64, pow2-scale}
 use Rattle.rounding.proofs.Order.{eq-is, le-is}
 use Rattle.shapes.specs.declared.circle.Circle.{Circle}
 use Rattle.scope.specs.Numbers.{_-ᶠ_, _*ᶠ_, _<ᶠ_, _≤ᶠ_, nought, e-10, abs}
@@ -24,7 +24,7 @@ use Rattle.promises.proofs.numbers.Magnitude.{one-pos, mag-le, within-m
 use Rattle.promises.proofs.numbers.Bounded.{near-of}
 use Rattle.promises.proofs.gauge.Axis.{difference-near}
 use Rattle.promises.proofs.gauge.Carried.{StandsWithin, centreBound, in-reach-of-turn}
-use Rattle.promises.proofs.gauge.Turn.{Turned, turn-is-unit, turn-levels, not-level-some, nought-fin, nought-value}
+use Rattle.promises.proofs.gauge.Turn.{turn-is-unit, turn-levels, not-level-some, nought-fin, nought-value}
 use Rattle.promises.proofs.gauge.Rotate.{rotation-carries, turnAbout}
 
 -- 55 * 2^-17: 1e-10 times twice a centre's bound is 4.1943e-4, and this 4.1962e-4

@@ -1,14 +1,11 @@
 -- After the centring the exact box of the circles has its middle near the origin: twice the middle is off by at most two roundings of ends and four of answers.
-use Prim.Native.Nat.{ℕ, zero, suc, _+_, _*_, _<_}
+use Prim.Native.Nat.{ℕ, _+_, _*_, _<_}
 use native.Mathlib.Omega.{arith}
-use native.Mathlib.Decide.{decLt}
 use mathlib.Core.Path.{_≡_}
-use mathlib.Core.Logic.{inl, inr}
 use mathlib.Core.List.{List}
 use lib.ListN.{length}
 use lib.Ieee.{Float, binary64, neg}
 use Rattle.algebra.specs.Integer.{Z, nat, opp, Within, Near, _⊕_, _⊖_, _≼_}
-use Rattle.algebra.proofs.Size.{either}
 use Rattle.rounding.specs.Scale.{pow2}
 use Rattle.rounding.proofs.Negate.{neg-val}
 use Rattle.shapes.specs.declared.point.Point.{Point}
