@@ -160,7 +160,10 @@ typedef struct {
  * how much room lies between clusters, proportion how their grid is cut. Refuses 1, 13, 2, 3, 4, 5, 6, 14, 16.
  *
  * Proved of each answer, to 1/65,536: circles of different clusters are the padding apart on one axis at least; circles of one cluster that were not moved keep
- * their distance; a moved circle does not reach past its parent; two circles have one number exactly if a chain of regions joins them. */
+ * their distance; a moved circle does not reach past its parent; two circles have one number exactly if a chain of regions joins them.
+ *
+ * And so that every card hangs alike: the box of all circles has its middle at the origin; in each cluster of two circles or more the first centre is not right of
+ * the middle of the cluster's centres, nor above it, and the second is level with it, to 1/2,048. First and second are the members of lowest number. */
 rundhefja_layout_result rundhefja_layout(rundhefja_circle *circles, size_t circles_len, double factor, const uint64_t *masks, size_t masks_len,
                                          const double *areas, size_t areas_len, double proportion);
 
