@@ -5,6 +5,7 @@ pub mod Hang
 pub mod Demand3
 pub mod PackingAccepts
 pub mod Duds
+pub mod Tight
 pub mod Lengths
 pub mod Inks
 pub mod CardStock

@@ -6,7 +6,7 @@ use mathlib.Core.Path.{_≡_}
 use mathlib.Core.Logic.{_⊎_, inl, inr}
 use mathlib.Core.Bool.{Bool}
 use lib.Dec.{T}
-use Rattle.algebra.specs.Integer.{Z, opp, _≼_}
+use Rattle.algebra.specs.Integer.{Z, opp, _≈_, _≼_}
 use Rattle.algebra.proofs.Size.{either}
 use Rattle.scope.specs.Promises.{Range}
 use Rattle.laws.proofs.Cases.{tested}
@@ -78,6 +78,23 @@ range-of member n lowerEnd upperEnd k p =
   where
     turned : (a b : Z) → opp a ≼ opp b → b ≼ a
     turned a b h = omega arith
+
+-- and only one: a promise about some ends of a range is one about all
+pub ends-unique : {P : ℕ → Type 0} {lowerEnd upperEnd : ℕ → Z} → (r s : Range P lowerEnd upperEnd) → (r .lo ≈ s .lo) × (r .hi ≈ s .hi)
+ends-unique {lowerEnd = f} {upperEnd = g} r s =
+    let a = r .lo-taken in
+    let b = s .lo-taken in
+    let c = r .hi-taken in
+    let d = s .hi-taken in (
+      same-low (r .lo) (s .lo) (f (a .0)) (f (b .0)) (a .2) (b .2) (r .lo-bounds (b .0) (b .1)) (s .lo-bounds (a .0) (a .1)),
+      same-high (r .hi) (s .hi) (g (c .0)) (g (d .0)) (c .2) (d .2) (r .hi-bounds (d .0) (d .1)) (s .hi-bounds (c .0) (c .1)),
+    )
+  where
+    same-low : (lo lo' x x' : Z) → x ≼ lo → x' ≼ lo' → lo ≼ x' → lo' ≼ x → lo ≈ lo'
+    same-low lo lo' x x' a b c d = omega arith
+
+    same-high : (hi hi' x x' : Z) → hi ≼ x → hi' ≼ x' → x' ≼ hi → x ≼ hi' → hi ≈ hi'
+    same-high hi hi' x x' a b c d = omega arith
 
 -- the same numbers, named otherwise
 abbrev pub range-for : {P Q : ℕ → Type 0} {lowerEnd upperEnd : ℕ → Z} → ((k : ℕ) → P k → Q k) → ((k : ℕ) → Q k → P k) → Range P lowerEnd upperEnd → Range Q lowerEnd upperEnd
