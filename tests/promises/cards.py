@@ -255,7 +255,7 @@ KINDS = {
     small_random: 13, many_clusters: 9, one_cluster: 7, tiny_and_far: 5, coinciding: 5, nearly_coinciding: 5, children: 10, children_at_the_edge: 8,
     tight_children: 5, nearly_level: 8, level_children: 4, nearly_symmetrical: 8, first_on_the_middle: 4, odd_areas: 5, one_circle: 1, large_pairs: 1,
     sixty_four_clusters: 1, sixty_four_in_one: 1,
-}  # fmt: skip
+}
 
 
 # The share of a kind that has company, 0.02 of the others: what rounding does to these shows best in a large grid.

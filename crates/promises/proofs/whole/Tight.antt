@@ -1,4 +1,4 @@
--- The card of four circles, computed.
+-- The card of three circles, computed.
 use native.Mathlib.Nat.{not-le-of-lt}
 use native.Mathlib.Omega.{arith}
 use mathlib.Core.Path.{refl}
@@ -6,10 +6,10 @@ use lib.Dec.{lit<}
 use Rattle.rounding.specs.Value.{val, mag, negative}
 use Rattle.rounding.specs.Scale.{pow2}
 use Rattle.scope.specs.Computing.{computing}
-use Rattle.promises.specs.Tight.{childrenFirst, theirLayout, LevelTight}
+use Rattle.promises.specs.Tight.{childSecond, theirLayout, LevelTight}
 
 pub level-is-tight : LevelTight
-unfolding computing val mag negative pow2 childrenFirst theirLayout
+unfolding computing val mag negative pow2 childSecond theirLayout
 level-is-tight = record {
   accepted = refl;
   first-two = record { rising = lit< tt; inside = lit< tt; together = refl; no-other = λ k l _. omega arith };
