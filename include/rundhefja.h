@@ -162,8 +162,9 @@ typedef struct {
  * Proved of each answer, to 1/65,536: circles of different clusters are the padding apart on one axis at least; circles of one cluster that were not moved keep
  * their distance; a moved circle does not reach past its parent; two circles have one number exactly if a chain of regions joins them.
  *
- * And so that every card hangs alike: the box of all circles has its middle at the origin; in each cluster of two circles or more the first centre is not right of
- * the middle of the cluster's centres, nor above it, and the second is level with it, to 1/2,048. First and second are the members of lowest number. */
+ * And so that every card hangs alike, to 1/65,536 too: the box of all circles has its middle at the origin; in each cluster of two circles or more the first
+ * centre is not right of the middle of the range of the cluster's centres, nor above it, where y is larger. The second is level with the first, to 1/2,048.
+ * First and second are the members of lowest number. */
 rundhefja_layout_result rundhefja_layout(rundhefja_circle *circles, size_t circles_len, double factor, const uint64_t *masks, size_t masks_len,
                                          const double *areas, size_t areas_len, double proportion);
 

@@ -27,7 +27,7 @@ class Card:
         return struct.pack(f"<QQdd{'dddQ' * n}{m}Q{m}d", n, m, self.factor, self.proportion, *circles, *masks, *(self.regions[mask] for mask in masks))
 
     def __str__(self):
-        """As docs/make-card takes it."""
+        """As docs/make-card takes it. A card file has no proportion, so that is a comment."""
         lines = [f"factor {self.factor} # proportion {self.proportion}"]
         lines += [f"circle {x} {y} {r} {ink}" for (x, y, r), ink in zip(self.circles, self.inks())]
         lines += [f"region {' '.join(str(i) for i in range(64) if mask >> i & 1)} {self.regions[mask]}" for mask in sorted(self.regions)]

@@ -22,6 +22,16 @@ secondOf member n = least n (λ k. member k && not (eqb k (firstOf member n)))
 another : (member : ℕ → Bool) (i k : ℕ) → T (member k) → (k ≡ i → ⊥) → T (member k && not (eqb k i))
 another member i k t d = and-iff (member k) (not (eqb k i)) .1 (t, not-iff (eqb k i) .1 (λ e. d (eqb-iff k i .0 e)))
 
+-- where a second one is found, both are members
+pub both-found : (member : ℕ → Bool) (n : ℕ) → secondOf member n < n → (firstOf member n < n) × T (member (firstOf member n)) × T (member (secondOf member n)) × (secondOf member n ≡ firstOf member n → ⊥)
+both-found member n l =
+    let a = firstOf member n in
+    let b = secondOf member n in
+    let both = and-iff (member b) (not (eqb b a)) .0 (least-passes n (λ k. member k && not (eqb k a)) l) in
+    let order = least-below n member b (both .0) in
+    let below : a < n = omega arith in
+    (below, least-passes n member below, both .0, λ e. not-iff (eqb b a) .0 (both .1) (eqb-iff b a .1 e))
+
 -- so what is lowest is found
 pub two-lowest : (member : ℕ → Bool) (n i j : ℕ) → i < j → j < n → T (member i) → T (member j) → ((k : ℕ) → k < j → T (member k) → k ≡ i)
     → (firstOf member n ≡ i) × (secondOf member n ≡ j)
@@ -49,20 +59,12 @@ module _ (n : ℕ) (result : Result) (i j : ℕ) (li : i < n) (lj : j < n) (apar
   is : (k : ℕ) → T (member k) → numberOf result k ≡ numberOf result i
   is k t = eqb-iff (numberOf result k) (numberOf result i) .0 t
 
-  first-in : T (member a)
-  first-in = least-passes n member (let l = least-below n member i (has i refl) in omega arith)
-
   -- i or j is another one than the first
   second-below : b < n
   second-below = elim (tested (eqb i a)) [
     | yes e ↦ let l = least-below n (λ k. member k && not (eqb k a)) j (another member a j (has j (sym same)) (λ f. apart (eqb-iff i a .0 e ∙ sym f))) in omega arith
     | no e ↦ let l = least-below n (λ k. member k && not (eqb k a)) i (another member a i (has i refl) (λ f. e (eqb-iff i a .1 f))) in omega arith
   ]
-
-  second-in : T (member b) × (b ≡ a → ⊥)
-  second-in =
-      let both = and-iff (member b) (not (eqb b a)) .0 (least-passes n (λ k. member k && not (eqb k a)) second-below) in
-      (both .0, λ e. not-iff (eqb b a) .0 (both .1) (eqb-iff b a .1 e))
 
   only : (k : ℕ) → k < b → T (member k) → k ≡ a
   only k h t = elim (tested (eqb k a)) [
@@ -72,15 +74,20 @@ module _ (n : ℕ) (result : Result) (i j : ℕ) (li : i < n) (lj : j < n) (apar
 
   pub has-first-two : (p : ℕ) × (q : ℕ) × FirstTwo n result p q × (numberOf result p ≡ numberOf result i)
   has-first-two =
-      let first = is a first-in in
-      let order = least-below n member b (second-in .0) in (
+      let found = both-found member n second-below in
+      let first = is a (found .1) in
+      let order = least-below n member b (found .2) in (
         a,
         b,
         record {
-          rising = elim (decLt a b) [ yes l ↦ l | no l ↦ absurd (second-in .1 (omega arith)) ];
+          rising = elim (decLt a b) [ yes l ↦ l | no l ↦ absurd (found .3 (omega arith)) ];
           inside = second-below;
-          together = is b (second-in .0) ∙ sym first;
+          together = is b (found .2) ∙ sym first;
           no-other = λ k h e. only k h (has k (e ∙ first));
         },
         first,
       )
+
+-- the two circles of lowest number, where they have one cluster number
+pub first-two-of : (n : ℕ) → 1 < n → (result : Result) → numberOf result 1 ≡ numberOf result 0 → FirstTwo n result 0 1
+first-two-of n l result e = record { rising = omega arith; inside = l; together = e; no-other = λ k h _. omega arith }

@@ -7,7 +7,7 @@ use lib.ListN.{replicate}
 use lib.Ieee.{Float, neg}
 use Rattle.shapes.specs.declared.circle.Circle.{Circle}
 use Rattle.shapes.specs.Records.{circleOf}
-use Rattle.scope.specs.Numbers.{nought, one, two, golden}
+use Rattle.scope.specs.Numbers.{nought, one, two, whole, golden}
 use Rattle.scope.specs.Limits.{circleCap}
 use Rattle.scope.specs.Refusals.{layoutRefusal}
 use Rattle.scope.specs.Links.{regions}
@@ -58,7 +58,8 @@ pub record Duds : Type 0 where
   pub other-side : (y z : Float)
       → BrokenOf (3 ∷ []) (wholeCircle 0 0 1 1 ∷ wholeCircle 4 0 1 2 ∷ []) (answeredTogether (wholeCircle 0 0 1 1 ∷ wholeCircle 4 0 1 2 ∷ []))
       (circleOf two y one 1 ∷ circleOf (neg two) z one 2 ∷ [])
-  -- turned to the second circle's angle and not back: of (0,0,1) and (3,4,1) in one cluster the second comes back 4 above the first, wherever they stand across
-  pub at-its-angle : (x z : Float)
-      → BrokenOf (3 ∷ []) (wholeCircle 0 0 1 1 ∷ wholeCircle 3 4 1 2 ∷ []) (answeredTogether (wholeCircle 0 0 1 1 ∷ wholeCircle 3 4 1 2 ∷ []))
-      (circleOf x (neg two) one 1 ∷ circleOf z two one 2 ∷ [])
+  -- turned by the second circle's angle, and not back by it: (15,20) from the first it would come to (-7,24), so of (0,0,1) and (15,20,1) in one cluster the
+  -- second comes back 24 above the first, wherever they stand across
+  pub turned-on : (x z : Float)
+      → BrokenOf (3 ∷ []) (wholeCircle 0 0 1 1 ∷ wholeCircle 15 20 1 2 ∷ []) (answeredTogether (wholeCircle 0 0 1 1 ∷ wholeCircle 15 20 1 2 ∷ []))
+      (circleOf x (neg (whole 12)) one 1 ∷ circleOf z (whole 12) one 2 ∷ [])

@@ -1,5 +1,5 @@
--- Document 01, "Packing and centring": demand 3, stated, and document 02, 7/14, how a card hangs. It "reads f64 values as whole multiples of 2^-1074", so no
--- rounding stands between them. Bounds are numbers of such units.
+-- Document 01, "Packing and centring": demand 3, stated, and document 02, 7/14, how a card hangs. "Demand 3 reads f64 values as whole multiples of 2^-1074", and
+-- so does the other: no rounding stands between them. Bounds are numbers of such units.
 use Prim.Native.Nat.{ℕ, _+_, _*_, _<_}
 use mathlib.Core.Path.{_≡_}
 use mathlib.Core.Logic.{_⊎_, _↔_, _≢_}

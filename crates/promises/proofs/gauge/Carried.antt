@@ -52,7 +52,7 @@ pub record StandsWithin (b : ℕ) (c : Circle) : Type 0 where
   pub within-y : Within (units (c .center .y)) b
   pub lifted : lift (c .radius) ≡ c .radius
 
-pub stands-wider : {b d : ℕ} {c : Circle} → b ≤ d → StandsWithin b c → StandsWithin d c
+stands-wider : {b d : ℕ} {c : Circle} → b ≤ d → StandsWithin b c → StandsWithin d c
 stands-wider {b} {d} {c} l p = record { fin-x = p .fin-x; fin-y = p .fin-y; within-x = wider (units (c .center .x)) (p .within-x); within-y = wider (units (c .center .y)) (p .within-y); lifted = p .lifted }
   where
     wider : (a : Z) → Within a b → Within a d

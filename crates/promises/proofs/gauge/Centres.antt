@@ -23,7 +23,7 @@ use Rattle.scope.specs.Promises.{units}
 use Rattle.promises.proofs.numbers.Bounded.{Bounded, half-is, middle-is}
 use Rattle.promises.proofs.packing.Folds.{Up, Down, Extreme, gather-part, attained-has, minimum-extreme, maximum-extreme}
 
--- ---- the middle of some centres, and that of the box's ends is it
+-- ---- the middle of some centres; so that of the box of a cluster's centres
 abbrev pub middleOf : (ℕ → Bool) → ℕ → (ℕ → Float) → Float
 middleOf member n x = middle (gather minimum (inf false) member n x) (gather maximum (inf true) member n x)
 

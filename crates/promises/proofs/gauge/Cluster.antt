@@ -1,27 +1,27 @@
 -- `rotateCluster` as a whole: one motion carries every member of the cluster, and nothing else is touched. No turn and no mirror are motions too.
 use mathlib.Core.Path.{_≡_, refl, sym, ap, _∙_}
-use mathlib.Core.Bool.{Bool, true, false, not, _&&_, cond}
+use mathlib.Core.Bool.{Bool, true, false, cond}
 use mathlib.Core.List.{List}
 use Prim.Native.Nat.{ℕ, _+_, _<_}
 use native.Mathlib.Omega.{arith}
 use native.Mathlib.Decide.{decLt}
-use lib.Dec.{T, eqb, ltb, ltb→lt}
+use lib.Dec.{T, ltb, ltb→lt}
 use lib.ListN.{length, List·getD-eq-default}
-use lib.Ieee.{Float, binary64}
-use Rattle.rounding.specs.Value.{Fin}
+use lib.Ieee.{Float}
 use Rattle.rounding.specs.Scale.{pow2}
-use Rattle.rounding.proofs.Double.{sub64, pow2-scale, pow2-le}
+use Rattle.rounding.proofs.Double.{pow2-le}
 use Rattle.shapes.specs.declared.point.Point.{Point}
 use Rattle.shapes.specs.declared.bounds.Bounds.{Bounds}
 use Rattle.shapes.specs.declared.circle.Circle.{Circle}
 use Rattle.scope.specs.Numbers.{_-ᶠ_, _<ᶠ_}
 use Rattle.scope.specs.Links.{circle, nowhere}
 use Rattle.scope.specs.Gauge.{changed, level, turn, rotated, turned, centresBox, middleX, middleY, mirrorX, mirrorY, mirroredX, mirroredY, mirrored, rotateCluster}
-use Rattle.laws.proofs.Cases.{and-iff, tested, is-true, is-false}
-use Rattle.laws.proofs.Runs.{length-tab, getD-tab, getD-tab-past, least-passes, least-below}
-use Rattle.laws.proofs.FirstTwo.{firstOf, secondOf}
+use Rattle.laws.proofs.Cases.{tested, is-true, is-false}
+use Rattle.laws.proofs.Runs.{length-tab, getD-tab, getD-tab-past}
+use Rattle.laws.proofs.FirstTwo.{firstOf, secondOf, both-found}
 use Rattle.promises.proofs.gauge.Turn.{turn-is-unit, not-level-some}
 use Rattle.promises.proofs.gauge.Carried.{Motion, Carried, StandsWithin, centreBound, in-reach-of-turn, carried-loosely, still, stays}
+use Rattle.promises.proofs.gauge.Level.{dx-is, dy-is}
 use Rattle.promises.proofs.gauge.Rotate.{turnAbout, rotation-carries}
 use Rattle.promises.proofs.gauge.Mirror.{applied, mirroredBy, mirrors-carry}
 use Rattle.promises.proofs.gauge.Centres.{middle-x-is, middle-y-is, middle-inside}
@@ -95,25 +95,15 @@ module _ (member : ℕ → Bool) (i j : ℕ) (cs : List Circle) where
 
   -- the turn of two placed centres that are not level
   module _ (first-placed : StandsWithin centreBound (circle cs i)) (second-placed : StandsWithin centreBound (circle cs j)) where
-    P : StandsWithin (pow2 82) (circle cs i)
-    P = in-reach-of-turn first-placed
-
-    Q : StandsWithin (pow2 82) (circle cs j)
-    Q = in-reach-of-turn second-placed
-
-    dx-fin : Fin binary64 dx
-    dx-fin = sub64 29 tt (circle cs j .center .x) (circle cs i .center .x) (Q .fin-x) (P .fin-x) (omega (arith, P .within-x, Q .within-x, pow2-scale 82 1)) .fin
-
-    dy-fin : Fin binary64 dy
-    dy-fin = sub64 29 tt (circle cs j .center .y) (circle cs i .center .y) (Q .fin-y) (P .fin-y) (omega (arith, P .within-y, Q .within-y, pow2-scale 82 1)) .fin
-
     pub turned-carries : AllPlaced member cs → (g : Motion) × AllCarried g (pow2 34) (pow2 85) member cs (turned member i j cs)
     turned-carries placed = elim (tested (level dx dy)) [
       | yes t ↦ (still, λ k h m. rw (turned-level t) (carried-loosely (pow2 34) (pow2 85) (omega arith) (pow2-le 82 85 tt) (stays (circle cs k) (in-reach-of-turn (placed k h m)))))
       | no t ↦
-          let u = turn-is-unit dx dy dx-fin dy-fin (not-level-some dx dy dx-fin dy-fin t) in (
+          let px = dx-is (circle cs i) (circle cs j) first-placed second-placed .0 in
+          let py = dy-is (circle cs i) (circle cs j) first-placed second-placed .0 in
+          let u = turn-is-unit dx dy px py (not-level-some dx dy px py t) in (
             turnAbout (turn dx dy) u pivot,
-            λ k h m. rw (turned-steep t, changed-member member (rotated (turn dx dy) pivot) cs k h m) (rotation-carries (turn dx dy) u (circle cs i) (circle cs k) P (in-reach-of-turn (placed k h m))),
+            λ k h m. rw (turned-steep t, changed-member member (rotated (turn dx dy) pivot) cs k h m) (rotation-carries (turn dx dy) u (circle cs i) (circle cs k) (in-reach-of-turn first-placed) (in-reach-of-turn (placed k h m))),
           )
     ]
 
@@ -138,7 +128,7 @@ module _ (member : ℕ → Bool) (i : ℕ) (cs : List Circle) where
   half-way-length : length half-way ≡ length cs
   half-way-length = maybe-length member (mirrorX (middleX box)) cs inX
 
-  pub mirrored-length : length (mirrored member i cs) ≡ length cs
+  mirrored-length : length (mirrored member i cs) ≡ length cs
   mirrored-length = ap length mirrored-is ∙ maybe-length member (mirrorY (middleY box)) half-way inY ∙ half-way-length
 
   mirrored-other : (k : ℕ) → ¬ T (member k) → circle (mirrored member i cs) k ≡ circle cs k
@@ -202,12 +192,9 @@ module _ (member : ℕ → Bool) (cs : List Circle) where
   rotate-carries placed = elim (tested (ltb second (length cs))) [
     | yes t ↦
         let below = ltb→lt second (length cs) t in
-        let m = and-iff (member second) (not (eqb second first)) .0 (least-passes (length cs) (λ k. member k && not (eqb k first)) below) .0 in
-        let order = least-below (length cs) member second m in
-        let first-below : first < length cs = omega arith in
-        let f = least-passes (length cs) member first-below in
-        let a = turned-carries member first second cs (placed first first-below f) (placed second below m) placed in
-        let b = mirrored-carries member first (turned member first second cs) cs (sym (turned-length member first second cs)) placed (a .1) first first-below f in
+        let two = both-found member (length cs) below in
+        let a = turned-carries member first second cs (placed first (two .0) (two .1)) (placed second below (two .2)) placed in
+        let b = mirrored-carries member first (turned member first second cs) cs (sym (turned-length member first second cs)) placed (a .1) first (two .0) (two .1) in
         (b .0, λ k h u. rw (rotate-two t) (b .1 k h u))
     | no t ↦ (still, λ k h u. rw (rotate-fewer t) (carried-loosely (pow2 34 + pow2 33) (pow2 87) (omega arith) (pow2-le 82 87 tt) (stays (circle cs k) (in-reach-of-turn (placed k h u)))))
   ]

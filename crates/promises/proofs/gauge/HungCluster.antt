@@ -1,10 +1,10 @@
 -- `rotateCluster` hangs its cluster: the turn makes the second centre level with the first, the mirrors put the first on the near side of the middle.
 use mathlib.Core.Path.{_≡_, refl, ap, _∙_}
-use mathlib.Core.Bool.{Bool, true, false, not, _&&_, cond}
+use mathlib.Core.Bool.{Bool, true, false, cond}
 use mathlib.Core.List.{List}
 use Prim.Native.Nat.{ℕ, _+_, _*_, _≤_, _<_}
 use native.Mathlib.Omega.{arith}
-use lib.Dec.{T, eqb, ltb, ltb→lt, lit≤}
+use lib.Dec.{T, ltb, ltb→lt, lit≤}
 use lib.ListN.{length}
 use lib.Ieee.{Float}
 use Rattle.algebra.specs.Integer.{Z, Within, _⊖_}
@@ -14,8 +14,8 @@ use Rattle.scope.specs.Numbers.{_-ᶠ_, _*ᶠ_, _<ᶠ_, two}
 use Rattle.scope.specs.Links.{circle}
 use Rattle.scope.specs.Gauge.{level, turn, rotated, turned, middleX, middleY, mirrorX, mirrorY, mirrored, rotateCluster}
 use Rattle.scope.specs.Promises.{units}
-use Rattle.laws.proofs.Cases.{and-iff, tested}
-use Rattle.laws.proofs.Runs.{least-passes, least-below}
+use Rattle.laws.proofs.Cases.{tested}
+use Rattle.laws.proofs.FirstTwo.{both-found}
 use Rattle.promises.proofs.numbers.Bounded.{Bounded}
 use Rattle.promises.proofs.numbers.RangeOf.{Members}
 use Rattle.promises.proofs.gauge.Carried.{StandsWithin, centreBound}
@@ -111,10 +111,10 @@ rotate-hangs member cs placed t =
     let j = second member cs in
     let ts = turned member i j cs in
     let below = ltb→lt j (length cs) t in
-    let m = and-iff (member j) (not (eqb j i)) .0 (least-passes (length cs) (λ k. member k && not (eqb k i)) below) .0 in
-    let order = least-below (length cs) member j m in
-    let first-below : i < length cs = omega arith in
-    let f = least-passes (length cs) member first-below in
+    let two = both-found member (length cs) below in
+    let first-below = two .0 in
+    let f = two .1 in
+    let m = two .2 in
     let carried = turned-carries member i j cs (placed i first-below f) (placed j below m) placed .1 in
     let same = turned-length member i j cs in
     rw (rotate-two member cs t)

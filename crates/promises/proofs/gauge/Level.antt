@@ -1,6 +1,5 @@
 -- The second centre comes out of the turn level with the first. Where no turn is made its height differs by at most 1e-10 times dx, and dx is at most twice what
 -- the offset step leaves of a coordinate; a turn leaves roundings alone.
-use mathlib.Core.Path.{_≡_, refl}
 use mathlib.Core.Logic.{inl, inr}
 use mathlib.Core.Bool.{false, _&&_}
 use Prim.Native.Nat.{ℕ, _+_, _*_, _≤_, _<_}
@@ -10,7 +9,7 @@ use lib.Dec.{T, lit≤}
 use lib.Ieee.{Float, binary64, eq, fits, ofBits}
 use Rattle.algebra.specs.Integer.{Z, nat, Within, Near, _⊕_, _⊖_, _⊗_, _≈_, _≼_}
 use Rattle.algebra.proofs.Size.{within-mul, within-difference}
-use Rattle.rounding.specs.Value.{mag, negative, Fin}
+use Rattle.rounding.specs.Value.{mag, Fin}
 use Rattle.rounding.specs.Scale.{pow2}
 use Rattle.rounding.proofs.Value.{val-mag}
 use Rattle.rounding.proofs.Double.{sub64, mul64, pow2-scale}
@@ -35,10 +34,6 @@ levelBound = 55 * pow2 43
 e-10-fin : Fin binary64 e-10
 unfolding Fin fits e-10 ofBits
 e-10-fin = tt
-
-e-10-sign : negative e-10 ≡ false
-unfolding negative e-10 ofBits
-e-10-sign = refl
 
 -- what dx is within
 abbrev dxBound : ℕ
@@ -84,10 +79,10 @@ module _ (first second : Circle) (P : StandsWithin centreBound first) (Q : Stand
       go : (d x y : Z) → Near d (y ⊖ x) (pow2 29) → Within x centreBound → Within y centreBound → Within d dxBound
       go d x y n v w = omega arith
 
-  dx-is : Fin binary64 dx × Near (units dx) across (pow2 29) × Within (units dx) dxBound
+  pub dx-is : Fin binary64 dx × Near (units dx) across (pow2 29) × Within (units dx) dxBound
   dx-is = difference (first .center .x) (second .center .x) (P .fin-x) (Q .fin-x) (P .within-x) (Q .within-x)
 
-  dy-is : Fin binary64 dy × Near (units dy) up (pow2 29) × Within (units dy) dxBound
+  pub dy-is : Fin binary64 dy × Near (units dy) up (pow2 29) × Within (units dy) dxBound
   dy-is = difference (first .center .y) (second .center .y) (P .fin-y) (Q .fin-y) (P .within-y) (Q .within-y)
 
   -- ---- no turn: as it was handed in

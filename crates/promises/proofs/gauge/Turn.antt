@@ -291,19 +291,19 @@ module _ (dx dy m : Float) (p : Fin binary64 dx) (q : Fin binary64 dy) (o : Fin 
       let wq = within-mag dy (size dy) (omega arith) in
       let ratios =
       within-over (Q ⊗ units x ⊖ P ⊗ units y) m (pow2 6 * (size dx + size dy)) some
-      (first ((Q ⊗ units x ⊖ P ⊗ units y) ⊗ units m) (size dx) (size dy) (pow2 6) (size m) (pow2 60)
+      (ratios-over ((Q ⊗ units x ⊖ P ⊗ units y) ⊗ units m) (size dx) (size dy) (pow2 6) (size m) (pow2 60)
       (crossed P Q (units x) (units y) P Q (units m) (pow2 60) (pow2 6) (size m) (size dx) (size dy) 0 (ratio-x .times) (ratio-y .times) wp wq (omega arith))) in
       rw (neg-val binary64 (y /ᶠ h))
       (opposite Q (units (x /ᶠ h)) P (units (y /ᶠ h)) (4 * (pow2 6 * (size dx + size dy)))
       (within-over (Q ⊗ units (x /ᶠ h) ⊖ P ⊗ units (y /ᶠ h)) h (4 * (pow2 6 * (size dx + size dy))) (omega (arith, tall, one-pos))
-      (second ((Q ⊗ units (x /ᶠ h) ⊖ P ⊗ units (y /ᶠ h)) ⊗ units h) (size dx) (size dy) (pow2 6) (size h) (pow2 60) tall
+      (quotients-over ((Q ⊗ units (x /ᶠ h) ⊖ P ⊗ units (y /ᶠ h)) ⊗ units h) (size dx) (size dy) (pow2 6) (size h) (pow2 60) tall
       (crossed (units x) (units y) (units (x /ᶠ h)) (units (y /ᶠ h)) P Q (units h) (pow2 60) (2 * pow2 6) (size h) (size dx) (size dy) (pow2 6 * (size dx + size dy)) (C .times) (S .times) wp wq ratios))))
     where
-      first : (X : Z) (a b e m L : ℕ) → Within X (0 * L + (a + b) * (e * m)) → Within X (e * (a + b) * m)
-      first X a b e m L h = omega arith
+      ratios-over : (X : Z) (a b e m L : ℕ) → Within X (0 * L + (a + b) * (e * m)) → Within X (e * (a + b) * m)
+      ratios-over X a b e m L h = omega arith
 
-      second : (X : Z) (a b e h L : ℕ) → 3 * L ≤ 4 * h → Within X (e * (a + b) * L + (a + b) * (2 * e * h)) → Within X (4 * (e * (a + b)) * h)
-      second X a b e h L l k = omega (arith, mul-le-mul-left (e * (a + b)) l)
+      quotients-over : (X : Z) (a b e h L : ℕ) → 3 * L ≤ 4 * h → Within X (e * (a + b) * L + (a + b) * (2 * e * h)) → Within X (4 * (e * (a + b)) * h)
+      quotients-over X a b e h L l k = omega (arith, mul-le-mul-left (e * (a + b)) l)
 
       opposite : (q c p s : Z) (k : ℕ) → Within (q ⊗ c ⊖ p ⊗ s) k → Within (q ⊗ c ⊕ p ⊗ opp s) k
       opposite q c p s k h = omega arith

@@ -1,4 +1,4 @@
--- Finitely many numbers, one of them at least, have a range: its ends are the least and the greatest of them, found one by one.
+-- Finitely many numbers, one of them at least, have a range, and only one: its ends are the least and the greatest of them, found one by one.
 use Prim.Native.Nat.{ℕ, zero, suc, _+_, _<_}
 use native.Mathlib.Omega.{arith}
 use native.Mathlib.Decide.{decLt}

@@ -78,7 +78,7 @@ module _ {R : Z → Z → Type 0} {op : Float → Float → Float} {z : Float} (
       before : ¬ T (p n) → i < n
       before u = elim (decLt i n) [ yes l ↦ l | no g ↦ let e : i ≡ n = omega arith in absurd (u (subst (λ (j : ℕ). T (p j)) e t)) ]
 
--- ---- the three folds of the packing
+-- ---- minimum and maximum, from an infinity or from a finite value
 abbrev pub Up : Z → Z → Type 0
 Up a b = a ≼ b
 

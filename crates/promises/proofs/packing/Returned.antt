@@ -1,5 +1,5 @@
 -- Packing and centring together: every returned coordinate is the handed one with two numbers added, one of its cluster and one of the layout; the radius
--- stays; circles of different clusters are the padding apart; the room that all take is that of the columns and the rows. With fewer than two clusters nothing is
+-- stays; circles of different clusters are the padding apart; the room that all take is that of the columns and the rows; the middle of their box is at the origin. With fewer than two clusters nothing is
 -- packed, and the first number is -0.
 use Prim.Native.Nat.{ℕ, _+_, _*_, _≤_, _<_}
 use native.Mathlib.Omega.{arith}

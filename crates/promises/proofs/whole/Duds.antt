@@ -18,7 +18,8 @@ use Rattle.shapes.specs.declared.circle.Circle.{Circle}
 use Rattle.scope.specs.Computing.{computing}
 use Rattle.scope.specs.Links.{circle}
 use Rattle.scope.specs.Layout.{Result}
-use Rattle.scope.specs.Promises.{units, lower, upper, gapOn, larger, Each, numberOf, Centred, FirstTwo, NotPast}
+use Rattle.scope.specs.Promises.{units, lower, upper, gapOn, larger, Each, numberOf, Centred, NotPast}
+use Rattle.laws.proofs.FirstTwo.{first-two-of}
 use Rattle.promises.specs.Duds.{Duds}
 
 past : {m n : ℕ} → T (ltb n m) → m ≤ n → ⊥
@@ -41,10 +42,7 @@ off-middle {t} {axis} {cs} far h =
     go : (l u lo hi : Z) → l ≼ lo → u ≼ hi → Within (lo ⊕ hi) (2 * t) → nat (2 * t) ≺ l ⊕ u → ⊥
     go l u lo hi a b w far = omega arith
 
--- ---- of two circles in one cluster: they are its first two, and its range goes from one to the other
-first-two : (result : Result) → numberOf result 1 ≡ numberOf result 0 → FirstTwo 2 result 0 1
-first-two result e = record { rising = lit< tt; inside = lit< tt; together = e; no-other = λ k l _. omega arith }
-
+-- ---- of two circles in one cluster: its range goes from one to the other
 far-side : {t : ℕ} {axis : Point → Float} {result : Result} {cs : List Circle} → numberOf result 1 ≡ numberOf result 0
     → units (axis (circle cs 1 .center)) ⊕ nat (2 * t) ≺ units (axis (circle cs 0 .center)) → NotPast t axis 2 result cs 0 → ⊥
 far-side {t} {axis} {result} {cs} same beyond h =
@@ -70,6 +68,6 @@ duds-break-promises =
       all-moved = λ returned. record { accepted = refl; broken = λ p. subst IsSome (sym (p .reach 0 (lit< tt) tt .1)) tt };
       first-packed = λ first. record { accepted = refl; broken = λ p. neither tt tt (p .gap 1 2 (lit< tt) (lit< tt) (λ e. differ tt e)) };
       not-centred = record { accepted = refl; broken = λ p. off-middle (lit< tt) (p .middle (lit< tt) .0) };
-      other-side = λ y z. record { accepted = refl; broken = λ p. far-side refl (lit< tt) (p .first 0 1 (first-two _ refl) .0) };
-      at-its-angle = λ x z. record { accepted = refl; broken = λ p. past tt (p .level 0 1 (first-two _ refl) .above) };
+      other-side = λ y z. record { accepted = refl; broken = λ p. far-side refl (lit< tt) (p .first 0 1 (first-two-of 2 (lit< tt) _ refl) .0) };
+      turned-on = λ x z. record { accepted = refl; broken = λ p. past tt (p .level 0 1 (first-two-of 2 (lit< tt) _ refl) .above) };
     }

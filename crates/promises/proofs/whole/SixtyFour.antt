@@ -50,8 +50,8 @@ budget64 = record {
   slack = lit≤ tt;
 }
 
--- ---- how a card hangs, at these numbers: the middle and the first centre within 2^-20, level centres within 441 * 2^-20
-abbrev pub hang64 : Slack
+-- ---- how a card hangs, at these numbers: the middle within 2^-20 (5 * 2^-23 in fact) and the first centre too (197 * 2^-28), level centres within 441 * 2^-20
+abbrev hang64 : Slack
 hang64 = record { near = pow2 40; level = 441 * pow2 40 }
 
 middle-is-64 : 2 * pow2 37 + 4 * pow2 38 ≤ 2 * hang64 .near
