@@ -1,4 +1,4 @@
-// Times layouts, clusterings and charges of the port and of the Rust on the same inputs, in one run, and prints port over Rust.
+// Times layouts, clusterings, charges and touches of the port and of the Rust on the same inputs, in one run, and prints port over Rust.
 // With cfg `before` the library of an earlier commit is linked too, its calls' names beginning with `before_`, and port over that is printed.
 // Each workload is run in rounds, the sides in turn; a figure is the median of the rounds' ratios.
 #[path = "../target/bench/eunoia_at_1.618.rs"]
@@ -110,7 +110,7 @@ fn before() -> Option<Library> {
     return None;
 }
 
-// Of this library alone: one of an earlier commit may not have it.
+// Of this library alone: one of an earlier commit may not have these.
 #[link(name = "rundhefja", kind = "static")]
 unsafe extern "C" {
     fn rundhefja_card_stock(
@@ -124,6 +124,14 @@ unsafe extern "C" {
         proportion: f64,
         cents: u64,
     ) -> Charge;
+    fn rundhefja_touch_points(
+        circles: *const Record,
+        circles_len: usize,
+        points: *const Point,
+        points_len: usize,
+        answers: *mut u64,
+        answers_len: usize,
+    ) -> u8;
 }
 
 #[derive(Clone, Copy)]
@@ -394,6 +402,38 @@ fn charges(name: &str, cards: Vec<Card>, repeats: usize) {
     compare(name, repeats * cards.len(), vec![("port", Box::new(port)), ("Rust", Box::new(rust))]);
 }
 
+// 64 circles that stand apart, eight in a row.
+fn rows() -> Vec<[f64; 3]> {
+    (0..64).map(|i| [30.0 * (i % 8) as f64, 30.0 * (i / 8) as f64, 10.0]).collect()
+}
+
+// 64 circles that overlap most of such a sheet each.
+fn heap(random: &mut Random) -> Vec<[f64; 3]> {
+    (0..64).map(|_| [95.0 + random.unit() * 20.0, 95.0 + random.unit() * 20.0, 90.0 + random.unit() * 60.0]).collect()
+}
+
+// 1,024 points of the sheet that these rows fill.
+fn touches(name: &str, random: &mut Random, circles: &[[f64; 3]], repeats: usize) {
+    let points: Vec<Point> = (0..1024).map(|_| Point { x: random.unit() * 230.0 - 10.0, y: random.unit() * 230.0 - 10.0 }).collect();
+    let given = Card::new(circles, &[]).circles;
+    let shapes: Vec<_> = circles.iter().map(|&[x, y, radius]| eunoia::Circle::of(x, y, radius)).collect();
+    let port = || {
+        let mut answers = vec![0; points.len()];
+        let refusal = unsafe { rundhefja_touch_points(given.as_ptr(), given.len(), points.as_ptr(), points.len(), answers.as_mut_ptr(), answers.len()) };
+        assert_eq!(refusal, 0);
+        answers
+    };
+    let mask = |p: &Point| {
+        let p = eunoia::Point::new(p.x, p.y);
+        (0u32..).zip(&shapes).fold(0u64, |mask, (j, c)| mask | (eunoia::Closed::contains_point(c, &p) as u64) << j)
+    };
+    let rust = || points.iter().map(mask).collect::<Vec<u64>>();
+    assert_eq!(port(), rust(), "{name}: the answers differ");
+    let port = || (0..repeats).for_each(|_| drop(black_box(port())));
+    let rust = || (0..repeats).for_each(|_| drop(black_box(rust())));
+    compare(name, repeats, vec![("port", Box::new(port)), ("Rust", Box::new(rust))]);
+}
+
 // 64 circles that are linked by these masks.
 fn linked(masks: &[u64]) -> Card {
     let regions: Vec<(u64, f64)> = masks.iter().map(|m| (*m, 1.0)).collect();
@@ -444,6 +484,10 @@ fn main() {
     clusterings("clustering: 64 circles, 2,048 regions", By::Regions, one_clusters[0].clone(), 20);
     clusterings("clustering by circles: 64 here and there", By::Circles, many_clusters(random), 50);
     clusterings("clustering by circles: 64 in one place", By::Circles, linked(&[]), 50);
+    let over = &mut Random(1024);
+    touches("touch: 1,024 points over 64 circles apart", over, &rows(), 4);
+    let heap = heap(over);
+    touches("touch: 1,024 points over 64 in a heap", over, &heap, 4);
     let numbers: Vec<f64> = (0..100_000).map(|_| random.unit() * 1e6).collect();
     report(
         "the root alone",

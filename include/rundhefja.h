@@ -27,7 +27,7 @@
  * 0 to 1; 7 a side that is not finite or outside 0 to 2^23; 8 a padding that is not finite or outside 0 to 2^26; 9 a tag unknown or out of place; 10 a
  * field's length wrong for its tag; 11 a file that ends inside a field; 12 the root of NaN or of a number below 0; 13 masks and areas of unequal number;
  * 14 two circles of one run, or of one file, that have the same ink; 15 a lent list that is too short for what is to be written; 16 a proportion that is not
- * finite or outside 1/4 to 4; 17 a price outside 1 to 100.
+ * finite or outside 1/4 to 4; 17 a price outside 1 to 100; 18 more than 1,024 touch points; 19 fewer answers than touch points.
  * The lowest that applies comes back, but 13 before 2; a file and a field are checked front to back, and a file's values after that. */
 #ifndef RUNDHEFJA_H
 #define RUNDHEFJA_H
@@ -46,6 +46,7 @@ extern "C" {
 #define RUNDHEFJA_MAX_TEXT 4096
 #define RUNDHEFJA_MAX_FILE 40779 /* a card's longest: 64 circles and 2,048 regions */
 #define RUNDHEFJA_MAX_PRICE 100  /* in cents; the least is 1 */
+#define RUNDHEFJA_MAX_POINTS 1024
 
 /* A grid's proportion is about its columns to its rows, any from 1/4, for narrow stock, to 4, the ends inside. This is the one that program card keeps. */
 #define RUNDHEFJA_PROPORTION 1.618
@@ -206,6 +207,15 @@ rundhefja_length rundhefja_distance(rundhefja_circle a, rundhefja_circle b);
 rundhefja_test rundhefja_contains(rundhefja_circle a, rundhefja_circle b);
 rundhefja_test rundhefja_contains_point(rundhefja_circle c, rundhefja_point p);
 rundhefja_test rundhefja_intersects(rundhefja_circle a, rundhefja_circle b);
+
+/* ---- touch points */
+
+/* Writes for each point the circles that it lies in or on the edge of: bit j of answers[i] is set exactly if rundhefja_contains_point says yes of circle j and
+ * point i. A batch answers as its points do one by one. Answers behind the points' stay. A point obeys the range of coordinates, every one of them, so also where
+ * there are too many. The circles obey theirs, as in any call: a finished layout may lie beyond 2^20, and is then refused (3). Returns the refusal's number or 0,
+ * and after a refusal no answer is written. Refuses 1, 3, 4, 14, 18, 19. */
+uint8_t rundhefja_touch_points(const rundhefja_circle *circles, size_t circles_len, const rundhefja_point *points, size_t points_len, uint64_t *answers,
+                               size_t answers_len);
 
 /* ---- the card file */
 

@@ -1,4 +1,5 @@
-/* Lays out a card of four inks and prints where each circle goes, with the ink's number in the recipe book, and what the card stock costs. */
+/* Lays out a card of four inks and prints where each circle goes, with the ink's number in the recipe book, what the card stock costs, and which inks lie under
+ * two touches of the card. */
 #include <stdio.h>
 
 #include "rundhefja.h"
@@ -13,6 +14,9 @@ int main(void) {
     /* ocean alone, ocean and teal, rust alone, sand alone, rust and sand */
     const uint64_t masks[] = {1, 3, 4, 8, 12};
     const double areas[] = {1178, 78, 640, 390, 60};
+    /* where the panel was touched, and what lies there */
+    const rundhefja_point touches[] = {{-20, 0}, {25, 2}};
+    uint64_t under[2];
     int i;
 
     /* the charge reads the circles as they are handed in, so it comes before the layout, which rewrites them */
@@ -28,5 +32,16 @@ int main(void) {
                r.moved >> i & 1 ? ", moved off its parent's centre" : "");
     }
     printf("card stock %lu cents\n", (unsigned long)stock.amount);
+
+    /* a card this small stays in the range of a touch */
+    if (rundhefja_touch_points(inks, INKS, touches, 2, under, 2) != 0) return 1;
+    for (i = 0; i < 2; i++) {
+        int j;
+        printf("under %g %g:", touches[i].x, touches[i].y);
+        for (j = 0; j < INKS; j++) {
+            if (under[i] >> j & 1) printf(" %s", names[j]);
+        }
+        printf("\n");
+    }
     return 0;
 }

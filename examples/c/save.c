@@ -111,6 +111,26 @@ static const char *name_of(int ink) {
     }
 }
 
+/* Which inks lie under two touches of the finished card. */
+static int touched(const card *c) {
+    static const rundhefja_point touches[] = {{-20, 0}, {25, 2}};
+    uint64_t under[2];
+    size_t i, j;
+    const uint8_t refusal = rundhefja_touch_points(c->circle, c->circles, touches, 2, under, 2);
+    if (refusal != 0) {
+        fprintf(stderr, "the card cannot be touched: refused %d\n", refusal);
+        return 0;
+    }
+    for (i = 0; i < 2; i++) {
+        printf("under %g %g:", touches[i].x, touches[i].y);
+        for (j = 0; j < c->circles; j++) {
+            if (under[i] >> j & 1) printf(" %s", name_of(c->circle[j].ink));
+        }
+        printf("\n");
+    }
+    return 1;
+}
+
 static int show(card *c) {
     /* of the circles as they were saved, at 3 cents for each hundred square millimetres that is started */
     const rundhefja_charge stock = rundhefja_card_stock(c->circle, c->circles, c->factor, c->mask, c->regions, c->area, c->regions, RUNDHEFJA_PROPORTION, 3);
@@ -127,7 +147,7 @@ static int show(card *c) {
                r.moved >> i & 1 ? ", moved off its parent's centre" : "");
     }
     printf("card stock %lu cents\n", (unsigned long)stock.amount);
-    return 1;
+    return touched(c);
 }
 
 int main(int argc, char **argv) {

@@ -1,4 +1,5 @@
-// Lays out a card of four inks and prints where each circle goes, with the ink's number in the recipe book, and what the card stock costs.
+// Lays out a card of four inks and prints where each circle goes, with the ink's number in the recipe book, what the card stock costs, and which inks lie under
+// two touches of the card.
 // The library's proofs want round to nearest and subnormals, as every Rust program starts with, unless it is linked with -ffast-math: rundhefja.h has a check.
 #[repr(C)]
 #[derive(Clone, Copy)]
@@ -53,6 +54,14 @@ unsafe extern "C" {
         proportion: f64,
         cents: u64,
     ) -> Charge;
+    fn rundhefja_touch_points(
+        circles: *const Circle,
+        circles_len: usize,
+        points: *const Point,
+        points_len: usize,
+        answers: *mut u64,
+        answers_len: usize,
+    ) -> u8;
 }
 
 // About the columns to the rows of the grid of clusters, from 1/4 to 4: the one that program `card` keeps.
@@ -94,6 +103,13 @@ fn card_stock(circles: &[Circle], factor: f64, masks: &[u64], areas: &[f64], pro
     if r.refusal == 0 { Ok(r.amount) } else { Err(r.refusal) }
 }
 
+// For each point the mask of the circles that it lies in; or the refusal's number.
+fn touch(circles: &[Circle], points: &[Point]) -> Result<Vec<u64>, u8> {
+    let mut under = vec![0; points.len()];
+    let refusal = unsafe { rundhefja_touch_points(circles.as_ptr(), circles.len(), points.as_ptr(), points.len(), under.as_mut_ptr(), under.len()) };
+    if refusal == 0 { Ok(under) } else { Err(refusal) }
+}
+
 fn main() {
     let names = ["ocean", "teal", "rust", "sand"];
     // centre and radius in millimetres, and the ink's number
@@ -113,6 +129,16 @@ fn main() {
                 println!("ink {}, {:<5} group {} at {:8.3} {:8.3} radius {}{moved}", c.ink, names[i], l.numbers[i], c.center.x, c.center.y, c.radius);
             }
             println!("card stock {cents} cents");
+        }
+    }
+    let touches = [Point { x: -20.0, y: 0.0 }, Point { x: 25.0, y: 2.0 }];
+    match touch(&inks, &touches) {
+        Err(refusal) => println!("refused {refusal}"),
+        Ok(under) => {
+            for (p, mask) in touches.iter().zip(under) {
+                let names: String = (0..inks.len()).filter(|j| mask >> j & 1 == 1).map(|j| format!(" {}", names[j])).collect();
+                println!("under {} {}:{names}", p.x, p.y);
+            }
         }
     }
 }

@@ -125,7 +125,7 @@ typedef struct {
     size_t size;
 } lent;
 
-static lent circles, rectangles, masks, areas, patterns, file, text, output;
+static lent circles, rectangles, masks, areas, patterns, points, answers, file, text, output;
 
 static void *run(lent *l) { return l->now.bytes + GUARD; }
 
@@ -357,6 +357,41 @@ static int charge(record *r) {
     return is_byte(r, c.refusal) && is_word(r, c.amount) && ended(r) && kept(&circles, 0) && kept(&masks, 0) && kept(&areas, 0);
 }
 
+/* The refusal of the batch that is lent. */
+static uint8_t touch(void) {
+    return rundhefja_touch_points(run(&circles), circles.size / sizeof(rundhefja_circle), run(&points), points.size / sizeof(rundhefja_point), run(&answers),
+                                  answers.size / sizeof(uint64_t));
+}
+
+/* Whether too many points that are lent are refused with 3 once the last of them is out of range: no call by value has that one. */
+static int last_point_seen(void) {
+    static uint8_t bytes[ROOM];
+    memcpy(bytes, run(&points), points.size);
+    memset(bytes + points.size - sizeof(double), 0xff, sizeof(double));
+    lend(&points, bytes, points.size);
+    return touch() == 3 && kept(&points, 0) && kept(&answers, 0);
+}
+
+/* How many circles, points and answers; the circles, the points, the word that each answer is before the call; the refusal, the answers. */
+static int touches(record *r) {
+    static uint64_t filled[ROOM / sizeof(uint64_t)];
+    size_t n = take(r, 1), m = take(r, 2), k = take(r, 2), i;
+    uint64_t mask;
+    uint8_t refusal;
+    if (!lend_next(lend_circles, &circles, r, n * CIRCLE_BYTES) || !lend_next(lend_doubles, &points, r, m * sizeof(rundhefja_point))) return 0;
+    mask = take(r, 8);
+    if (left(r) != 1 + k * sizeof mask) return 0;
+    for (i = 0; i < k; i++) filled[i] = mask;
+    lend(&answers, filled, k * sizeof mask);
+    refusal = touch();
+    if (!is_byte(r, refusal)) return 0;
+    for (i = 0; i < k; i++) {
+        memcpy(&mask, answers.now.bytes + GUARD + i * sizeof mask, sizeof mask);
+        if (!is_word(r, mask)) return 0;
+    }
+    return ended(r) && kept(&circles, 0) && kept(&points, 0) && kept(&answers, refusal == 0 ? m * sizeof mask : 0) && (refusal != 18 || last_point_seen());
+}
+
 /* ---- the card file */
 
 /* The length of the file, the place, the file; the field, and its body's place and length. */
@@ -543,6 +578,7 @@ static const struct {
     {"charges", charge},
     {"hypot", NULL},
     {"fields", field},
+    {"touches", touches},
 };
 
 /* The hypot of any two numbers is no call of the interface: records of it are left out. */

@@ -659,6 +659,72 @@ static void charges(void) {
     for (i = 0; i < BAD; i++) check(charge_gives(1, bad(i), 64, 0.5, rising, 1, 1, 16), "16, of a charge");
 }
 
+/* ---- touch points */
+
+#define TOUCHES (RUNDHEFJA_MAX_POINTS + 1)
+#define FILL UINT64_C(0xa5a5a5a5a5a5a5a5)
+
+static rundhefja_point touch[TOUCHES];
+static uint64_t answers[TOUCHES + 1];
+
+/* Whether m points over n circles, with so many answers, give this number; after a refusal no answer is written, and after none those behind the points stay. */
+static int touch_gives(const rundhefja_circle *circles, size_t n, size_t m, size_t room, uint8_t refusal) {
+    size_t i;
+    int kept = 1;
+    for (i = 0; i <= TOUCHES; i++) answers[i] = FILL;
+    if (rundhefja_touch_points(circles, n, touch, m, answers, room) != refusal) return 0;
+    for (i = refusal == 0 ? m : 0; i <= TOUCHES; i++) kept = kept && answers[i] == FILL;
+    return kept;
+}
+
+/* Whether each answer has the circles for which the point by itself is inside. */
+static int as_singly(const rundhefja_circle *circles, size_t n, size_t m) {
+    size_t i, j;
+    for (i = 0; i < m; i++) {
+        uint64_t mask = 0;
+        for (j = 0; j < n; j++) {
+            const rundhefja_test t = rundhefja_contains_point(circles[j], touch[i]);
+            if (t.refusal != 0) return 0;
+            if (t.value) mask |= UINT64_C(1) << j;
+        }
+        if (answers[i] != mask) return 0;
+    }
+    return 1;
+}
+
+static void touches(void) {
+    rundhefja_circle some[65];
+    size_t i;
+    for (i = 0; i < 65; i++) some[i] = circle(10 * (double)(i % 8), 10 * (double)(i / 8), i % 3 == 0 ? 14 : 5, (uint16_t)(1000 - i));
+    some[0] = circle(0, 0, 5, 7);
+    some[1] = circle(3, 0, 1, 8);
+    some[2] = circle(100, 0, 1, 9);
+    touch[0] = point(3, 4);
+    touch[1] = point(3, 0);
+    touch[2] = point(100, 1);
+    touch[3] = point(0, above(5));
+    check(touch_gives(some, 3, 4, 6, 0) && answers[0] == 1 && answers[1] == 3 && answers[2] == 4 && answers[3] == 0, "the circles under four points");
+    check(touch_gives(some, 0, 4, 4, 0) && answers[0] == 0 && answers[3] == 0, "touch points over no circles");
+    check(touch_gives(some, 3, 0, 0, 0) && touch_gives(some, 3, 0, 5, 0), "no touch points");
+    for (i = 0; i < TOUCHES; i++) touch[i] = point((double)(i % 40) * 2.5 - 10, (double)(i / 40) * 3.5 - 10);
+    check(touch_gives(some, 64, 1024, 1024, 0) && as_singly(some, 64, 1024), "1,024 points over 64 circles, as each by itself");
+    check(touch_gives(some, 64, 1024, 1023, 19) && touch_gives(some, 0, 1, 0, 19), "19, of an answer list");
+    check(touch_gives(some, 64, 1025, 1025, 18) && touch_gives(some, 64, 1025, 0, 18) && touch_gives(some, 0, 1025, 1024, 18), "18, and before 19");
+    some[63].ink = some[62].ink;
+    check(touch_gives(some, 64, 1025, 0, 14) && touch_gives(some, 64, 4, 3, 14) && touch_gives(some, 63, 4, 4, 0), "18 and 19 after 14");
+    some[5].radius = 0;
+    check(touch_gives(some, 64, 1025, 0, 4) && touch_gives(some, 5, 4, 4, 0), "18 and 19 after 4");
+    touch[1024].y = above(1048576);
+    check(touch_gives(some, 64, 1025, 0, 3) && touch_gives(some, 0, 1025, 1025, 3) && touch_gives(some, 5, 1024, 1024, 0), "3, of a point past the 1,024th");
+    touch[1024].y = 0;
+    touch[1023].x = of(PAYLOAD);
+    check(touch_gives(some, 5, 1024, 1024, 3) && touch_gives(some, 5, 1023, 1023, 0), "3, of the last point, and no answer is written");
+    check(touch_gives(some, 65, 1025, 0, 1), "1, of touch points");
+    touch[1023].x = 0;
+    some[4].center.x = -above(1048576);
+    check(touch_gives(some, 5, 4, 4, 3) && touch_gives(some, 4, 4, 4, 0), "3, of a circle under touch points");
+}
+
 /* two circles and no region; see samples/ */
 static size_t sample(const char *name, uint8_t *input, size_t room) {
     size_t n;
@@ -822,6 +888,7 @@ int main(int argc, char **argv) {
     inks();
     proportions();
     charges();
+    touches();
     field();
     write_card(argc > 1 ? argv[1] : "samples/two.card");
     card_text(argc > 1 ? argv[1] : "samples/two.card");

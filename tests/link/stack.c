@@ -17,6 +17,8 @@ static uint64_t masks[RUNDHEFJA_MAX_REGIONS], patterns[RUNDHEFJA_MAX_REGIONS];
 static double areas[RUNDHEFJA_MAX_REGIONS];
 static uint8_t card[RUNDHEFJA_MAX_INPUT], text[RUNDHEFJA_MAX_TEXT], written[RUNDHEFJA_MAX_FILE];
 static rundhefja_rectangle boxes[RUNDHEFJA_MAX_CIRCLES];
+static rundhefja_point points[RUNDHEFJA_MAX_POINTS];
+static uint64_t answers[RUNDHEFJA_MAX_POINTS];
 static size_t card_length;
 static int refusal;
 
@@ -31,6 +33,10 @@ static void fill(void) {
         circles[i].ink = 65535 - i;
         boxes[i].width = 1.0 + i % 5;
         boxes[i].height = 1.0 + i % 7;
+    }
+    for (i = 0; i < RUNDHEFJA_MAX_POINTS; i++) {
+        points[i].x = 2.0 * (i % 32);
+        points[i].y = 2.0 * (i / 32);
     }
     for (i = 0; i < RUNDHEFJA_MAX_REGIONS; i++) {
         masks[i] = i * UINT64_C(0x1f0000001f0003) + 1;
@@ -114,6 +120,11 @@ static void *pack(void *unused) {
     return unused;
 }
 
+static void *touch_points(void *unused) {
+    refusal = rundhefja_touch_points(circles, RUNDHEFJA_MAX_CIRCLES, points, RUNDHEFJA_MAX_POINTS, answers, RUNDHEFJA_MAX_POINTS);
+    return unused;
+}
+
 static void *write_card(void *unused) {
     const rundhefja_written w =
         rundhefja_write_card(circles, RUNDHEFJA_MAX_CIRCLES, 0.5, masks, RUNDHEFJA_MAX_REGIONS, patterns, RUNDHEFJA_MAX_REGIONS, written, sizeof written);
@@ -165,6 +176,7 @@ static const struct {
     {"clusters of 64 circles", clusters, RUNDHEFJA_STACK},
     {"clusters by 2,048 regions", area_clusters, RUNDHEFJA_STACK},
     {"packing of 64 rectangles", pack, RUNDHEFJA_STACK},
+    {"1,024 touch points over 64 circles", touch_points, RUNDHEFJA_STACK},
     {"the file of a card of 64 circles and 2,048 regions", write_card, RUNDHEFJA_STACK},
     {"the text of a card of 64 circles and 2,048 regions", card_text, RUNDHEFJA_STACK_CARD_TEXT},
     {"the text of an input of 65,536 bytes", long_text, RUNDHEFJA_STACK_CARD_TEXT},

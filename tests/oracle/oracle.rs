@@ -1,10 +1,11 @@
 // Writes records of inputs and the answers of the patched Rust, for the program `replay` and for tests/lent:
 //     oracle KIND COUNT SEED          COUNT random inputs of a kind
-//     oracle KIND COUNT SEED small    of kinds 4, 5, 8 to 12 and 14: mostly short records
-//     oracle KIND COUNT SEED stats    of kinds 1 to 4 and 10 to 13: and on standard error how often each case came up
+//     oracle KIND COUNT SEED small    of kinds 4, 5, 8 to 12, 14 and 15: mostly short records
+//     oracle KIND COUNT SEED stats    of kinds 1 to 4, 10 to 13 and 15: and on standard error how often each case came up
 //     oracle at P KIND COUNT SEED     inputs of kind 8, 11 or 12 at a proportion, until COUNT of them are accepted; `small` and `stats` as above
 //     oracle columns P                a record of kind 7 for each of 0 to 65 boxes, at a proportion
 //     oracle charges                  a record of kind 12 for each boundary of a charge
+//     oracle touches [small]          a record of kind 15 for each boundary of a batch of points; `small` leaves most of the long ones out
 //     oracle near-tangent             records of kinds 1 to 4 for circles that fall otherwise than by the root of rounded squares
 //     oracle hypots SEED              a record of kind 13 for each of the sides that are stored
 //     oracle files NAME...            a record of kind 10 for each of the card files
@@ -12,7 +13,7 @@
 // A record is a kind byte, a two-byte length and a body: the input, then the answer; all numbers little-endian. Refusals are worked out here from document
 // 01's table, since the Rust asserts or takes what comes; so are the fields of kind 14, as the Rust has no card file. The Rust sees circles without their inks:
 // those that come back are those handed in, and two equal ones of a list are refused with 14, after all of document 01. A proportion out of range is refused
-// with 16, after these, and then a price with 17. Either zero is written as 0, and every NaN as one.
+// with 16, after these, and then a price with 17, too many points with 18, and too few answers with 19. Either zero is written as 0, and every NaN as one.
 #[path = "../../target/oracle/eunoia.rs"]
 mod eunoia;
 mod card;
@@ -22,6 +23,7 @@ mod fields;
 mod hypot;
 mod layouts;
 mod sides;
+mod touches;
 
 use eunoia::*;
 use sides::{Reach, Sides};
@@ -760,6 +762,26 @@ fn charge_record(given: &layouts::Lists, proportion: f64, cents: u64, record: &m
     charge
 }
 
+// How many circles, points and answers; the circles, the points, the word that each answer is before the call; the refusal, the answers.
+fn touch_record(batch: &touches::Batch, record: &mut Record) -> touches::Touched {
+    let touched = touches::touch(batch);
+    record.byte(batch.circles.len());
+    record.short(batch.points.len());
+    record.short(batch.room);
+    for (c, ink) in batch.circles.iter().zip(&batch.inks) {
+        record.circle(*c, *ink);
+    }
+    for x in batch.points.iter().flatten() {
+        record.float(*x);
+    }
+    record.word(batch.fill);
+    record.byte(touched.refusal);
+    for mask in &touched.answers {
+        record.word(*mask);
+    }
+    touched
+}
+
 // The length of the card file, the file, and what program `card` prints for it.
 fn card_record(file: &[u8], record: &mut Record) -> card::Outcome {
     let outcome = card::outcome(file);
@@ -821,6 +843,7 @@ fn write_random(words: &[String], out: &mut impl Write) {
     let mut tally = cards::Tally::default();
     let mut layouts_tally = layouts::Tally::default();
     let mut charges_tally = charges::Tally::default();
+    let mut touches_tally = touches::Tally::default();
     let mut sides = Sides::default();
     let mut sides_tally = sides::Tally::default();
     let mut places = fields::Places::default();
@@ -887,6 +910,16 @@ fn write_random(words: &[String], out: &mut impl Write) {
                 let at = places.next(&mut random, asked("small"));
                 field_record(&places.file, at, &mut record);
             }
+            15 => {
+                let batch = touches::batch(&mut random, asked("small"));
+                let touched = touch_record(&batch, &mut record);
+                if stats {
+                    touches_tally.count(&batch, &touched);
+                    let mut before = Record::default();
+                    hypot::by_rounded_squares(|| touch_record(&batch, &mut before));
+                    changed += (before.0 != record.0) as usize;
+                }
+            }
             _ => panic!("no such kind"),
         }
         record.write(kind as u8, out);
@@ -894,7 +927,7 @@ fn write_random(words: &[String], out: &mut impl Write) {
     if stats && kind == 10 {
         tally.print();
     }
-    if stats && ((2..=4).contains(&kind) || kind == 10) {
+    if stats && ((2..=4).contains(&kind) || kind == 10 || kind == 15) {
         eprintln!("another answer by the root of rounded squares {changed}");
     }
     if stats && kind == 11 {
@@ -902,6 +935,9 @@ fn write_random(words: &[String], out: &mut impl Write) {
     }
     if stats && kind == 12 {
         charges_tally.print();
+    }
+    if stats && kind == 15 {
+        touches_tally.print();
     }
     if stats && (kind == 1 || kind == 13) {
         sides_tally.print();
@@ -964,6 +1000,14 @@ fn write_charges(out: &mut impl Write) {
         let mut record = Record::default();
         charge_record(&given, proportion, cents, &mut record);
         record.write(12, out);
+    }
+}
+
+fn write_touches(small: bool, out: &mut impl Write) {
+    for batch in touches::boundaries(small) {
+        let mut record = Record::default();
+        touch_record(&batch, &mut record);
+        record.write(15, out);
     }
 }
 
@@ -1033,6 +1077,7 @@ fn main() {
         Some("at") => write_at(&words[1..], &mut out),
         Some("columns") => write_columns(proportion(&words, 1), &mut out),
         Some("charges") => write_charges(&mut out),
+        Some("touches") => write_touches(words.iter().any(|w| w == "small"), &mut out),
         Some("near-tangent") => write_near_tangent(&mut out),
         Some("hypots") => write_hypots(number(&words, 1), &mut out),
         _ => write_random(&words, &mut out),

@@ -1,2 +1,4 @@
 pub mod Numbers
 pub mod Meeting
+pub mod Slack
+pub mod Covering

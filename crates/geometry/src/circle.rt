@@ -12,6 +12,7 @@ ghost use Rattle.scope.specs.Distance.{
 };
 ghost use Rattle.scope.specs.Refusals.{pairRefusal, circlePointRefusal};
 ghost use Rattle.geometry.specs.Answers.{measured, decided};
+use crate::lengths::covers;
 use crate::lengths::crossing;
 use crate::lengths::within;
 use crate::point::Measured;
@@ -103,7 +104,7 @@ fn raw_contains(a: Circle, b: Circle) -> bool
 fn raw_contains_point(c: Circle, p: Point) -> bool
     ensures { λ r. ⌜ r ≡ containsPoint c p ⌝ }
 {
-    raw_distance(c.center, p) <= c.radius
+    covers(c.center.x - p.x, c.center.y - p.y, c.radius)
 }
 
 fn raw_intersects(a: Circle, b: Circle) -> bool

@@ -5,9 +5,16 @@ ghost use lib.Ieee.{binary64};
 ghost use Rattle.rounding.specs.Root.{root};
 ghost use Rattle.scope.specs.Numbers.{_+ᶠ_, _-ᶠ_, _<ᶠ_, _≤ᶠ_, abs};
 ghost use Rattle.scope.specs.Offset.{magnitude};
-ghost use Rattle.geometry.specs.Lengths.{DistanceBy};
+ghost use Rattle.geometry.specs.Lengths.{DistanceBy, HoldsBy};
 use root::answers::Root;
 use root::hypot::hypot;
+use shapes::circle::Circle;
+
+// 1 + 2^-48. A sum of squares above so much of the radius's square is outside: all roundings together are less than that off.
+const ABOVE: f64 = 1.0000000000000036;
+
+// 1 - 2^-48. One below so much of it is inside.
+const BELOW: f64 = 0.9999999999999964;
 
 // The size of a number, its sign taken off.
 pub fn absolute(x: f64) -> f64
@@ -44,6 +51,23 @@ pub fn apart(x: f64, y: f64) -> f64
     ensures { λ r. ⌜ DistanceBy x y r ⌝ }
 {
     hypot(x, y)
+}
+
+// Whether a circle of radius r holds a point that lies x and y off its centre. Squares decide where they are far enough apart; near the edge the distance does.
+pub fn covers(x: f64, y: f64, r: f64) -> bool
+    ensures { λ q. ⌜ HoldsBy x y r q ⌝ }
+{
+    if Circle::radius_in_range(r) {
+        let square = r * r;
+        let sum = x * x + y * y;
+        if square * ABOVE < sum {
+            return false;
+        }
+        if sum < square * BELOW {
+            return true;
+        }
+    }
+    apart(x, y) <= r
 }
 
 // Of circles whose centres are d apart: whether one lies inside the other. One that touches the edge from inside does.

@@ -78,6 +78,14 @@ pub layout-checks : (a b c d e f g h p : Bool)
 unfolding refusal first causeHolds causes
 layout-checks a b c d e f g h p = refl
 
+-- what the words of circles, of points and of a batch say
+pub touch-checks : (a b c h p m s : Bool)
+    → refusal ((1, a) ∷ (3, b) ∷ (4, c) ∷ (14, h) ∷ (3, p) ∷ (18, m) ∷ (19, s) ∷ [])
+    ≡ refusal ((1, a) ∷ (3, b || p) ∷ (4, c) ∷ (14, h) ∷ (18, m) ∷ (19, s) ∷ [])
+unfolding refusal first causeHolds causes
+touch-checks a true c h p m s = refl
+touch-checks a false c h p m s = refl
+
 -- ---- the search for it, cause by cause
 abbrev small : ℕ → ℕ → Bool
 small i k = ltb k 32

@@ -11,8 +11,10 @@ use lib.ListN.{length, getD, take, drop, length-take}
 use lib.Seq.{take-length, drop-length, length-take-le, drop-cons, getD-at, take-all, ext-getD}
 use lib.Dec.{T}
 use lib.Ieee.{Float, nan}
+use Rattle.shapes.specs.declared.point.Point.{Point}
 use Rattle.shapes.specs.declared.circle.Circle.{Circle}
 use Rattle.shapes.specs.declared.rectangle.Rectangle.{Rectangle}
+use Rattle.shapes.specs.Records.{pointAt}
 use Rattle.scope.specs.Numbers.{_+ᶠ_}
 use Rattle.scope.specs.Runs.{tab, any}
 use Rattle.scope.specs.Limits.{coordinateOk, radiusOk}
@@ -27,7 +29,7 @@ use Rattle.laws.proofs.Inks.{length-inked, inked-at, inks-inked}
 use Rattle.laws.proofs.Cases.{or-iff, same-test}
 use Rattle.laws.proofs.Runs.{length-tab, getD-tab, tab-equal, any-at}
 use Rattle.intake.specs.Limits.{maxCircles}
-use Rattle.intake.specs.Columns.{at, bareCircle, circlesOf, xsOf, ysOf, radiiOf, widthsOf, heightsOf, each, members, Lifted}
+use Rattle.intake.specs.Columns.{at, bareCircle, circlesOf, xsOf, ysOf, radiiOf, widthsOf, heightsOf, noPoint, point, acrossOf, upOf, pointsOf, each, members, Lifted}
 use Rattle.intake.specs.CauseWords.{bareFront, front}
 use Rattle.intake.proofs.InPlace.{so-far, rewritten, all-rewritten}
 
@@ -108,6 +110,32 @@ pub height-at : (rects : List Rectangle) (i : ℕ) → i < length rects → at (
 unfolding heightsOf
 height-at rects i h = getD-tab (length rects) (λ k. rectangle rects k .height) i nan h
 
+-- ---- the lists of a run of points
+pub length-across : (ps : List Point) → length (acrossOf ps) ≡ length ps
+unfolding acrossOf
+length-across ps = length-tab (length ps) (λ i. point ps i .x)
+
+pub length-up : (ps : List Point) → length (upOf ps) ≡ length ps
+unfolding upOf
+length-up ps = length-tab (length ps) (λ i. point ps i .y)
+
+pub across-at : (ps : List Point) (i : ℕ) → i < length ps → at (acrossOf ps) i ≡ point ps i .x
+unfolding acrossOf
+across-at ps i h = getD-tab (length ps) (λ k. point ps k .x) i nan h
+
+pub up-at : (ps : List Point) (i : ℕ) → i < length ps → at (upOf ps) i ≡ point ps i .y
+unfolding upOf
+up-at ps i h = getD-tab (length ps) (λ k. point ps k .y) i nan h
+
+-- a run is shown by its two lists
+pub points-back : (ps : List Point) → pointsOf (acrossOf ps) (upOf ps) ≡ ps
+unfolding pointsOf
+points-back ps =
+    let long : length (tab (length (acrossOf ps)) (λ i. pointAt (at (acrossOf ps) i) (at (upOf ps) i))) ≡ length ps = length-tab _ _ ∙ length-across ps in
+    ext-getD noPoint _ ps long (λ i h.
+    let below : i < length ps = rw long at h in
+    getD-tab _ (λ k. pointAt (at (acrossOf ps) k) (at (upOf ps) k)) i noPoint (rw (length-across ps) below) ∙ rw (across-at ps i below, up-at ps i below))
+
 -- ---- lists changed at a cluster's members
 pub length-members : (member : ℕ → Bool) (f : ℕ → Float → Float) (l : List Float) → length (members member f l) ≡ length l
 length-members member f l = length-tab (length l) (λ i. cond (member i) (f i (at l i)) (at l i))
@@ -179,16 +207,17 @@ module _ (xs ys rs : List Float) where
       any-same badRadius (λ r. not (radiusOk r)) (circlesOf xs ys rs) rs nowhere nan (length-shown xs ys rs ∙ sym e)
       (λ i h. let below : i < length xs = rw e at h in rw (shown-at xs ys rs i below))
 
+-- ---- as many as there is room for, of an array that has no more
+pub take-room : {A : Type 0} (n m w : ℕ) (l : List A) → length l ≡ w → m ≡ min n w → take m l ≡ take n l
+take-room n m w l e room =
+    elim (decLt n w) [
+      | yes h ↦ let same : m ≡ n = omega arith in rw same
+      | no h ↦ take-all m l (omega arith) ∙ sym (take-all n l (omega arith))
+    ]
+
 -- ---- the circles in the front of four arrays
 module _ (n m : ℕ) (xs ys rs : List Float) (is : List ℕ) (x : length xs ≡ maxCircles) (y : length ys ≡ maxCircles) (r : length rs ≡ maxCircles)
     (k : length is ≡ maxCircles) (room : m ≡ min n maxCircles) where
-  take-room : {A : Type 0} (l : List A) → length l ≡ maxCircles → take m l ≡ take n l
-  take-room l e =
-      elim (decLt n (length l)) [
-        | yes h ↦ let same : m ≡ n = omega arith in rw same
-        | no h ↦ take-all m l (omega arith) ∙ sym (take-all n l (omega arith))
-      ]
-
   same-front : {A B : Type 0} (l : List A) (j : List B) → length l ≡ maxCircles → length j ≡ maxCircles → length (take n l) ≡ length (take n j)
   same-front l j e f = length-take n l ∙ ap (min n) (e ∙ sym f) ∙ sym (length-take n j)
 
@@ -196,16 +225,16 @@ module _ (n m : ℕ) (xs ys rs : List Float) (is : List ℕ) (x : length xs ≡ 
   unfolding badCentre
   front-centre =
       any-inked badCentre (λ _ _. refl) (take n is) (bareFront n xs ys rs) ∙ any-centre (take n xs) (take n ys) (take n rs) (same-front ys xs y x)
-      ∙ rw (take-room xs x, take-room ys y)
+      ∙ rw (take-room n m maxCircles xs x room, take-room n m maxCircles ys y room)
 
   pub front-radius : any badRadius (front n xs ys rs is) ≡ any (λ v. not (radiusOk v)) (take m rs)
   unfolding badRadius
   front-radius =
       any-inked badRadius (λ _ _. refl) (take n is) (bareFront n xs ys rs) ∙ any-radius (take n xs) (take n ys) (take n rs) (same-front rs xs r x)
-      ∙ rw (take-room rs r)
+      ∙ rw (take-room n m maxCircles rs r room)
 
   pub front-inks : sameInk (front n xs ys rs is) ≡ repeated (take m is)
   unfolding sameInk
   front-inks =
       ap repeated (inks-inked (take n is) (bareFront n xs ys rs) (same-front is xs k x ∙ sym (length-shown (take n xs) (take n ys) (take n rs)))
-      ∙ sym (take-room is k))
+      ∙ sym (take-room n m maxCircles is k room))

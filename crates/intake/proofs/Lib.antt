@@ -12,4 +12,6 @@ pub mod NumberArrays
 pub mod TakenCalls
 pub mod Splitting
 pub mod SplitCall
+pub mod ColumnsCall
 pub mod SidesCall
+pub mod PointsCall

@@ -1,5 +1,5 @@
--- A type of numbers in memory, as f64 and u16, and arrays of them with room for as many as there may be circles: a local array as it is made of zeros, as what is lent, and as
--- room again when the function ends; an array behind a reference as the row of its numbers; a number put into a row.
+-- A type of numbers in memory, as f64 and u16, and arrays of them, of any width: a local array as it is made of zeros, as what is lent, and as room again when the
+-- function ends; an array behind a reference as the row of its numbers; a number put into a row. Arrays have room for as many as there may be circles, or points.
 use Prim.Native.Nat.{ℕ, zero, suc, _*_, _<_}
 use mathlib.Core.Path.{_≡_, refl, sym, subst}
 use mathlib.Core.List.{List, [], _∷_}
@@ -33,9 +33,9 @@ use denote.Plain.{plain-type, plain-makes, plain-copy, uint-tells}
 use denote.RattleType.{RattleType}
 use denote.Shadow.{Pure, shadow}
 use denote.Steps.{owned, peeks}
-use Rattle.intake.specs.Limits.{maxCircles}
+use Rattle.intake.specs.Limits.{maxCircles, maxPoints}
 
--- ---- a type of numbers: it owns facts alone, and a number has one machine value
+-- ---- a type of numbers, and how many of them an array has: it owns facts alone, and a number has one machine value
 pub record Number : Type 1 where
   pub Of : Type 0
   pub coded : Coded Of
@@ -47,13 +47,14 @@ pub record Number : Type 1 where
   pub typed : (x : Of) → shadow (owns x (val x ∷ [])) → Holds (hasTy ty (val x)) × WT (val x)
   pub nought : Of
   pub nought-is : shadow (owns nought (val nought ∷ []))
+  pub width : ℕ
 
 pub float-nought : Is f64 (ofBits binary64 0) (vfloat binary64 (ofBits binary64 0) ∷ [])
 unfolding fits ofBits
 float-nought = (refl, refl)
 
-abbrev pub float64 : Number
-float64 = record {
+abbrev pub floats : ℕ → Number
+floats w = record {
   Of = Float;
   coded = codedFloat;
   ty = tyFloat binary64;
@@ -64,7 +65,15 @@ float64 = record {
   typed = λ x p. (tt, passes (fits binary64 x) (p .1));
   nought = ofBits binary64 0;
   nought-is = float-nought;
+  width = w;
 }
+
+-- as many as there may be circles, and as many as there may be points
+abbrev pub float64 : Number
+float64 = floats maxCircles
+
+abbrev pub pointFloat64 : Number
+pointFloat64 = floats maxPoints
 
 abbrev pub uint16 : Number
 uint16 = record {
@@ -78,6 +87,7 @@ uint16 = record {
   typed = λ x p. (tt, record { fits = p .1 });
   nought = 0;
   nought-is = (refl, lit< tt);
+  width = maxCircles;
 }
 
 module _ (k : Number) where
@@ -90,16 +100,19 @@ module _ (k : Number) where
 
   -- an array of them, its type in memory, and what it is made as
   abbrev pub Numbers : RattleType
-  Numbers = Array typeOf maxCircles
+  Numbers = Array typeOf (k .width)
 
   abbrev pub numbersTy : Ty
-  numbersTy = tyArray (k .ty) maxCircles
+  numbersTy = tyArray (k .ty) (k .width)
 
   abbrev pub noughts : List (k .Of)
-  noughts = replicate maxCircles (k .nought)
+  noughts = replicate (k .width) (k .nought)
 
 abbrev pub F64s : RattleType
 F64s = Numbers float64
+
+abbrev pub PointF64s : RattleType
+PointF64s = Numbers pointFloat64
 
 abbrev pub U16s : RattleType
 U16s = Numbers uint16
@@ -112,7 +125,7 @@ each-nought k (suc n) = (k .nought-is, each-nought k n)
 module _ (k : Number) where
   -- its machine value
   abbrev pub noughtsVal : Val
-  noughtsVal = arrayVal (replicate maxCircles (k .val (k .nought)))
+  noughtsVal = arrayVal (replicate (k .width) (k .val (k .nought)))
 
   noughts-are : (n : ℕ) → Is (Array (typeOf k) n) (replicate n (k .nought)) (arrayVal (replicate n (k .val (k .nought))) ∷ [])
   noughts-are n = (replicate n (k .val (k .nought)), ((refl, length-replicate n (k .nought)), each-nought k n))
@@ -128,13 +141,13 @@ module _ {M : Type 1} (𝓤 : URA M) (H : Heap 𝓤) (A : Atoms 𝓤) (W : Given
   number-copy = plain-copy 𝓤 H A W (k .Of) (k .coded) (k .ty ∷ []) (k .owns) (k .pure)
 
   pub noughts-typed : Holds (hasTy (numbersTy k) (noughtsVal k)) × WT (noughtsVal k)
-  noughts-typed = array-lawful 𝓤 H A W (typeOf k) number-lawful maxCircles .typed (noughts k) _ (noughts-are k maxCircles) .0
+  noughts-typed = array-lawful 𝓤 H A W (typeOf k) number-lawful (k .width) .typed (noughts k) _ (noughts-are k (k .width)) .0
 
   pub noughts-lie : (b : ℕ) → ent 𝓤 (sem 𝓤 H A (fat fullShare (rawTy (numbersTy k)) b 0 (noughtsVal k))) (sem 𝓤 H A (partAt (Numbers k) fullShare (noughts k) b 0))
   unfolding partOf
   noughts-lie b =
       qed W (‵ (fat fullShare (rawTy (numbersTy k)) b 0 (noughtsVal k)) ∷ []) ∵
-      owned ! (Numbers k) (Is (Numbers k)) (array-makes 𝓤 H A W (typeOf k) number-makes maxCircles) (noughts k) (noughtsVal k ∷ []) (noughts-are k maxCircles) $ move ! (1 ∷ 0 ∷ []) $ fjoin ! $
+      owned ! (Numbers k) (Is (Numbers k)) (array-makes 𝓤 H A W (typeOf k) number-makes (k .width)) (noughts k) (noughtsVal k ∷ []) (noughts-are k (k .width)) $ move ! (1 ∷ 0 ∷ []) $ fjoin ! $
       fpack ! (List Val) (λ us. fsep (cellAt fullShare (Numbers k .mir) us b 0) (Numbers k .own (noughts k) us)) (noughtsVal k ∷ []) $ done !
 
   -- room again
@@ -147,29 +160,29 @@ module _ {M : Type 1} (𝓤 : URA M) (H : Heap 𝓤) (A : Atoms 𝓤) (W : Given
 -- ---- an array behind a reference, as the row of its numbers
 module _ {M : Type 1} {𝓤 : URA M} {H : Heap 𝓤} {A : Atoms 𝓤} {K : Type 0} {W : Given 𝓤 H A} {Γ : List (Item 𝓤)} {G : Goal 𝓤 H} where
   pub opens-array : K → Soaks G → (k : Number) {κ : Lft} {q : Share} (xs : List (k .Of)) {γ : GName} (b o : ℕ)
-      → (length xs ≡ maxCircles → Seq K W (‵ (row (typeOf k) fullShare xs b o) ∷ ‵ (fobor κ q (Held (mem (Numbers k)) b o γ)) ∷ ‵ (fobs γ (Numbers k .coded .code xs)) ∷ ‵ (fauth γ (Numbers k .coded .code xs)) ∷ Γ) G)
+      → (length xs ≡ k .width → Seq K W (‵ (row (typeOf k) fullShare xs b o) ∷ ‵ (fobor κ q (Held (mem (Numbers k)) b o γ)) ∷ ‵ (fobs γ (Numbers k .coded .code xs)) ∷ ‵ (fauth γ (Numbers k .coded .code xs)) ∷ Γ) G)
       → Seq K W (‵ (fobs γ (Numbers k .coded .code xs)) ∷ ‵ (fbor κ (Held (mem (Numbers k)) b o γ)) ∷ ‵ (flft κ q) ∷ Γ) G
   opens-array t z k xs b o next = open-ref t z (mem (Numbers k)) {b = b} {o = o} $
-      use1 W (‵ (arr-parts (shares (typeOf k)) maxCircles .part fullShare xs b o)) (array-apart 𝓤 H A W (typeOf k) fullShare tt maxCircles xs b o) $ fsplit t $ feqL t next
+      use1 W (‵ (arr-parts (shares (typeOf k)) (k .width) .part fullShare xs b o)) (array-apart 𝓤 H A W (typeOf k) fullShare tt (k .width) xs b o) $ fsplit t $ feqL t next
 
-  pub closes-array : K → Soaks G → (k : Number) {κ : Lft} {q : Share} {u v : Gv} (ys : List (k .Of)) → length ys ≡ maxCircles → {γ : GName} (b o : ℕ)
+  pub closes-array : K → Soaks G → (k : Number) {κ : Lft} {q : Share} {u v : Gv} (ys : List (k .Of)) → length ys ≡ k .width → {γ : GName} (b o : ℕ)
       → Step K W (‵ (fobs γ (Numbers k .coded .code ys)) ∷ ‵ (fbor κ (Held (mem (Numbers k)) b o γ)) ∷ ‵ (flft κ q) ∷ Γ) G
       (‵ (row (typeOf k) fullShare ys b o) ∷ ‵ (fobor κ q (Held (mem (Numbers k)) b o γ)) ∷ ‵ (fobs γ u) ∷ ‵ (fauth γ v) ∷ Γ) G
-  closes-array t z k ys e b o = step (λ s. feqI t ℕ (length ys) maxCircles e $ fjoin t $
-      use1 W (‵ (partAt (Numbers k) fullShare ys b o)) (array-whole 𝓤 H A W (typeOf k) fullShare maxCircles ys b o) $ close-ref t z (mem (Numbers k)) ys {b = b} {o = o} $ s)
+  closes-array t z k ys e b o = step (λ s. feqI t ℕ (length ys) (k .width) e $ fjoin t $
+      use1 W (‵ (partAt (Numbers k) fullShare ys b o)) (array-whole 𝓤 H A W (typeOf k) fullShare (k .width) ys b o) $ close-ref t z (mem (Numbers k)) ys {b = b} {o = o} $ s)
 
   pub looks-array : K → Soaks G → (k : Number) {κ : Lft} {q : Share} (xs : List (k .Of)) (b o : ℕ)
-      → ((q′ : Share) → length xs ≡ maxCircles → Seq K W (‵ (row (typeOf k) q′ xs b o) ∷ ‵ (fobor κ q (partAt (Numbers k) q′ xs b o)) ∷ ‵ (fshr-bor κ (λ s. partAt (Numbers k) s xs b o)) ∷ Γ) G)
+      → ((q′ : Share) → length xs ≡ k .width → Seq K W (‵ (row (typeOf k) q′ xs b o) ∷ ‵ (fobor κ q (partAt (Numbers k) q′ xs b o)) ∷ ‵ (fshr-bor κ (λ s. partAt (Numbers k) s xs b o)) ∷ Γ) G)
       → Seq K W (‵ (fshr-bor κ (λ s. partAt (Numbers k) s xs b o)) ∷ ‵ (flft κ q) ∷ Γ) G
   looks-array t z k xs b o next =
       shr-bor-dup t $ move t (0 ∷ 2 ∷ []) $
-      shr-bor-open t z (part-halves 𝓤 H A W (Numbers k) (Is (Numbers k)) (shows 𝓤 H A (Numbers k)) (array-vals (λ x. k .val x ∷ [])) (array-tells (typeOf k) (λ x. k .val x ∷ []) (k .tells) maxCircles) (array-copy 𝓤 H A W (typeOf k) (number-copy 𝓤 H A W k) maxCircles) xs b o) (λ q′.
-      move t (1 ∷ []) $ use1 W (‵ (arr-parts (shares (typeOf k)) maxCircles .part q′ xs b o)) (array-apart 𝓤 H A W (typeOf k) q′ tt maxCircles xs b o) $ fsplit t $ feqL t (next q′))
+      shr-bor-open t z (part-halves 𝓤 H A W (Numbers k) (Is (Numbers k)) (shows 𝓤 H A (Numbers k)) (array-vals (λ x. k .val x ∷ [])) (array-tells (typeOf k) (λ x. k .val x ∷ []) (k .tells) (k .width)) (array-copy 𝓤 H A W (typeOf k) (number-copy 𝓤 H A W k) (k .width)) xs b o) (λ q′.
+      move t (1 ∷ []) $ use1 W (‵ (arr-parts (shares (typeOf k)) (k .width) .part q′ xs b o)) (array-apart 𝓤 H A W (typeOf k) q′ tt (k .width) xs b o) $ fsplit t $ feqL t (next q′))
 
-  pub shuts-array : K → Soaks G → (k : Number) {κ : Lft} {q : Share} (q′ : Share) (xs : List (k .Of)) → length xs ≡ maxCircles → (b o : ℕ)
+  pub shuts-array : K → Soaks G → (k : Number) {κ : Lft} {q : Share} (q′ : Share) (xs : List (k .Of)) → length xs ≡ k .width → (b o : ℕ)
       → Step K W (‵ (flft κ q) ∷ Γ) G (‵ (row (typeOf k) q′ xs b o) ∷ ‵ (fobor κ q (partAt (Numbers k) q′ xs b o)) ∷ Γ) G
-  shuts-array t z k q′ xs e b o = step (λ s. feqI t ℕ (length xs) maxCircles e $ fjoin t $
-      use1 W (‵ (partAt (Numbers k) q′ xs b o)) (array-whole 𝓤 H A W (typeOf k) q′ maxCircles xs b o) $ move t (1 ∷ []) $ obor-close t z $ drop t $ s)
+  shuts-array t z k q′ xs e b o = step (λ s. feqI t ℕ (length xs) (k .width) e $ fjoin t $
+      use1 W (‵ (partAt (Numbers k) q′ xs b o)) (array-whole 𝓤 H A W (typeOf k) q′ (k .width) xs b o) $ move t (1 ∷ []) $ obor-close t z $ drop t $ s)
 
 -- ---- one element
 module _ {M : Type 1} {𝓤 : URA M} {H : Heap 𝓤} {A : Atoms 𝓤} {K : Type 0} {W : Given 𝓤 H A} {Γ : List (Item 𝓤)} {E : Env 𝓤 H} where

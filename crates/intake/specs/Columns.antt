@@ -6,9 +6,10 @@ use mathlib.Core.Bool.{Bool, cond}
 use mathlib.Core.List.{List, _++_}
 use lib.ListN.{getD, length, drop}
 use lib.Ieee.{Float, nan}
+use Rattle.shapes.specs.declared.point.Point.{Point}
 use Rattle.shapes.specs.declared.circle.Circle.{Circle}
 use Rattle.shapes.specs.declared.rectangle.Rectangle.{Rectangle}
-use Rattle.shapes.specs.Records.{circleOf}
+use Rattle.shapes.specs.Records.{pointAt, circleOf}
 use Rattle.shapes.specs.Lift.{lift}
 use Rattle.scope.specs.Runs.{tab}
 use Rattle.scope.specs.Links.{circle}
@@ -42,6 +43,23 @@ widthsOf rects = tab (length rects) (λ i. rectangle rects i .width)
 
 unfoldable pub heightsOf : List Rectangle → List Float
 heightsOf rects = tab (length rects) (λ i. rectangle rects i .height)
+
+-- the point at a place of a run; past the end, one that is nowhere
+abbrev pub noPoint : Point
+noPoint = pointAt nan nan
+
+abbrev pub point : List Point → ℕ → Point
+point ps i = getD ps i noPoint
+
+-- the lists of a run of points, and the points that lists show
+unfoldable pub acrossOf : List Point → List Float
+acrossOf ps = tab (length ps) (λ i. point ps i .x)
+
+unfoldable pub upOf : List Point → List Float
+upOf ps = tab (length ps) (λ i. point ps i .y)
+
+unfoldable pub pointsOf : List Float → List Float → List Point
+pointsOf xs ys = tab (length xs) (λ i. pointAt (at xs i) (at ys i))
 
 -- every number changed by f, which knows its place
 abbrev pub each : (ℕ → Float → Float) → List Float → List Float

@@ -8,3 +8,7 @@ maxCircles = 64
 -- `MAX_REGIONS`
 abbrev pub maxRegions : ℕ
 maxRegions = 2048
+
+-- `MAX_POINTS`
+abbrev pub maxPoints : ℕ
+maxPoints = 1024

@@ -7,7 +7,7 @@ ghost use lib.Dec.{eqb};
 ghost use lib.ListN.{length};
 ghost use Rattle.scope.specs.Runs.{any, bit};
 ghost use Rattle.scope.specs.Limits.{within, coordinateOk, radiusOk, sideOk};
-ghost use Rattle.scope.specs.Refusals.{causes, first, tooMany, rising, badPoint, badCentre, badRadius, badFactor, badSide, badPadding, badProportion, badPrice, repeated};
+ghost use Rattle.scope.specs.Refusals.{causes, first, tooMany, rising, badPoint, badCentre, badRadius, badFactor, badSide, badPadding, badProportion, badPrice, tooManyPoints, tooFewAnswers, repeated};
 ghost use Rattle.intake.specs.CauseWords.{Says, circleChecks, maskChecks, regionChecks};
 ghost use Rattle.intake.specs.Limits.{maxCircles};
 use crate::limits::MAX_CIRCLES;
@@ -23,13 +23,34 @@ use crate::limits::bad_radius;
 use crate::limits::bad_side;
 use crate::limits::room;
 use crate::limits::too_many;
+use crate::limits::too_many_points;
 use crate::limits::too_many_regions;
 use shapes::circle::Circle;
 use shapes::point::Point;
 use shapes::rectangle::Rectangle;
 
 // Document 01's order: 13 goes before 2. The numbers of later requests are appended.
-const ORDER: [u8; 17] = [1, 13, 2, 3, 4, 5, 6, 7, 8, 9, 10, 11, 12, 14, 15, 16, 17];
+const ORDER: [u8; 19] = [
+    1,
+    13,
+    2,
+    3,
+    4,
+    5,
+    6,
+    7,
+    8,
+    9,
+    10,
+    11,
+    12,
+    14,
+    15,
+    16,
+    17,
+    18,
+    19,
+];
 
 // The first cause of a word in that order, 0 where none holds.
 pub fn number_of(word: u32) -> u8
@@ -37,7 +58,7 @@ pub fn number_of(word: u32) -> u8
 {
     let order = ORDER;
     let mut i: usize = 0;
-    while i < 17 {
+    while i < 19 {
         let k = order[i];
         if has(word, k) {
             return k;
@@ -160,6 +181,20 @@ pub fn of_price(cents: u64) -> u32
     ensures { λ r. ⌜ Says r ((17, badPrice cents) ∷ []) ⌝ }
 {
     flag(bad_price(cents), 131072)
+}
+
+// 3, of points that were looked at
+pub fn of_points_seen(bad: bool) -> u32
+    ensures { λ r. ⌜ Says r ((3, bad) ∷ []) ⌝ }
+{
+    flag(bad, 8)
+}
+
+// 18, 19, of so many points and a list for so many answers
+pub fn of_batch(points: usize, answers: usize) -> u32
+    ensures { λ r. ⌜ Says r ((18, tooManyPoints points) ∷ (19, tooFewAnswers answers points) ∷ []) ⌝ }
+{
+    flag(too_many_points(points), 262144) | flag(answers < points, 524288)
 }
 
 // 3, of any number of a list

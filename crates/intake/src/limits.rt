@@ -2,8 +2,8 @@
 ghost use mathlib.Core.Path.{_≡_};
 ghost use Prim.Native.Nat.{min};
 ghost use Rattle.scope.specs.Limits.{coordinateOk, sideOk};
-ghost use Rattle.scope.specs.Refusals.{tooMany, tooManyRegions, badPoint, badCentre, badRadius, badFactor, badSide, badPadding, badProportion, badPrice};
-ghost use Rattle.intake.specs.Limits.{maxCircles};
+ghost use Rattle.scope.specs.Refusals.{tooMany, tooManyRegions, tooManyPoints, badPoint, badCentre, badRadius, badFactor, badSide, badPadding, badProportion, badPrice};
+ghost use Rattle.intake.specs.Limits.{maxCircles, maxPoints};
 use shapes::circle::Circle;
 use shapes::point::Point;
 use shapes::rectangle::Rectangle;
@@ -11,6 +11,9 @@ use shapes::rectangle::Rectangle;
 pub const MAX_CIRCLES: usize = 64;
 
 pub const MAX_REGIONS: usize = 2048;
+
+// As many touch points as a batch may have.
+pub const MAX_POINTS: usize = 1024;
 
 // 2^20, the largest size of a coordinate.
 pub(crate) const MAX_COORDINATE: f64 = 1048576.0;
@@ -38,6 +41,13 @@ pub fn room(n: usize) -> usize
     if n < MAX_CIRCLES { n } else { MAX_CIRCLES }
 }
 
+// The smaller of m and 1,024.
+pub(crate) fn point_room(m: usize) -> usize
+    ensures { λ r. ⌜ r ≡ min m maxPoints ⌝ }
+{
+    if m < MAX_POINTS { m } else { MAX_POINTS }
+}
+
 // Refusal 1.
 pub fn too_many(n: usize) -> bool
     ensures { λ r. ⌜ r ≡ tooMany n ⌝ }
@@ -50,6 +60,13 @@ pub fn too_many_regions(n: usize) -> bool
     ensures { λ r. ⌜ r ≡ tooManyRegions n ⌝ }
 {
     n > MAX_REGIONS
+}
+
+// Refusal 18.
+pub fn too_many_points(m: usize) -> bool
+    ensures { λ r. ⌜ r ≡ tooManyPoints m ⌝ }
+{
+    m > MAX_POINTS
 }
 
 // Refusal 3.

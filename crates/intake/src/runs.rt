@@ -2,11 +2,19 @@
 ghost use mathlib.Core.Path.{_≡_};
 ghost use Prim.Native.Nat.{_≤_};
 ghost use lib.ListN.{length, take};
-ghost use Rattle.intake.specs.Limits.{maxCircles};
-ghost use Rattle.intake.specs.Splits.{takenOf, countRefusal, Written, Split, RunSplit, SidesSplit};
+ghost use mathlib.Core.Bool.{_||_};
+ghost use Rattle.shapes.specs.Records.{pointAt};
+ghost use Rattle.scope.specs.Refusals.{badPoint};
+ghost use Rattle.intake.specs.Limits.{maxCircles, maxPoints};
+ghost use Rattle.intake.specs.Splits.{takenOf, countRefusal, takenPoints, Written, Split, RunSplit, SidesSplit, PointsWritten, PointsSplit};
 use crate::limits::MAX_CIRCLES;
+use crate::limits::MAX_POINTS;
+use crate::limits::bad_point;
+use crate::limits::point_room;
 use crate::limits::too_many;
+use crate::limits::too_many_points;
 use shapes::circle::Circle;
+use shapes::point::Point;
 use shapes::rectangle::Rectangle;
 
 // The centres, the radii and the inks of a run.
@@ -93,6 +101,77 @@ pub fn split_sides(
         i = i + 1;
     }
     count_refusal(rectangles.len())
+}
+
+// The coordinates of a run of points, and whether one of them is refused (3): each is looked at, however many there are. Where there are more than may be, nothing
+// is written.
+pub fn split_points(
+    points: &[Point],
+    xs: &mut [f64; MAX_POINTS],
+    ys: &mut [f64; MAX_POINTS],
+) -> bool
+    ensures { λ r. ⌜ PointsSplit (now (points .entry)) (now (xs .entry), now (ys .entry)) r (now (xs .exit), now (ys .exit)) ⌝ }
+{
+    let end = taken_points(points.len());
+    let mut i: usize = 0;
+    while i < end {
+        let p = points[i];
+        xs[i] = p.x;
+        ys[i] = p.y;
+        i = i + 1;
+    }
+    let all = points.len();
+    let mut bad = false;
+    let mut j: usize = 0;
+    while j < all {
+        let p = points[j];
+        bad = noted(bad, p.x, p.y);
+        j = j + 1;
+    }
+    bad
+}
+
+// The same of the first m points of an array, or of all of them where m is more.
+pub fn split_point_array(
+    points: [Point; MAX_POINTS],
+    m: usize,
+    xs: &mut [f64; MAX_POINTS],
+    ys: &mut [f64; MAX_POINTS],
+) -> bool
+    ensures { λ r. ⌜ PointsWritten (take m points) (now (xs .entry), now (ys .entry)) r (now (xs .exit), now (ys .exit)) ⌝ }
+{
+    split_point_front(points, point_room(m), xs, ys)
+}
+
+fn split_point_front(points: [Point; MAX_POINTS], m: usize, xs: &mut [f64], ys: &mut [f64]) -> bool
+    requires { ⌜ (m ≤ maxPoints) × (length (now xs) ≡ maxPoints) × (length (now ys) ≡ maxPoints) ⌝ }
+    ensures { λ r. ⌜ PointsWritten (take m points) (now (xs .entry), now (ys .entry)) r (now (xs .exit), now (ys .exit)) ⌝ }
+{
+    let mut bad = false;
+    let mut i: usize = 0;
+    while i < m {
+        let p = points[i];
+        xs[i] = p.x;
+        ys[i] = p.y;
+        let next = noted(bad, p.x, p.y);
+        bad = next;
+        i += 1;
+    }
+    bad
+}
+
+// Whether a point was refused before, or this one is.
+pub(crate) fn noted(bad: bool, x: f64, y: f64) -> bool
+    ensures { λ r. ⌜ r ≡ (bad || badPoint (pointAt x y)) ⌝ }
+{
+    bad || bad_point(Point { x, y })
+}
+
+// How many of m points are taken: all, or none where there are too many.
+pub(crate) fn taken_points(m: usize) -> usize
+    ensures { λ r. ⌜ r ≡ takenPoints m ⌝ }
+{
+    if too_many_points(m) { 0 } else { m }
 }
 
 // How many of n records are taken: all, or none where there are too many.

@@ -12,7 +12,7 @@ use Rattle.shapes.specs.declared.point.Point.{Point}
 use Rattle.shapes.specs.declared.circle.Circle.{Circle}
 use Rattle.shapes.specs.declared.rectangle.Rectangle.{Rectangle}
 use Rattle.scope.specs.Runs.{filled}
-use Rattle.scope.specs.Refusals.{refused, given, answer, pointsRefusal, pairRefusal, circlePointRefusal, circlesRefusal, regionsRefusal, columnsRefusal, packRefusal, containerRefusal, layoutRefusal, stockRefusal, writerRefusal, textRefusal}
+use Rattle.scope.specs.Refusals.{refused, given, answer, pointsRefusal, pairRefusal, circlePointRefusal, circlesRefusal, regionsRefusal, columnsRefusal, packRefusal, containerRefusal, layoutRefusal, stockRefusal, touchRefusal, writerRefusal, textRefusal}
 use Rattle.scope.specs.Distance.{rootRefusal, rootAnswer, distance, distanceAnswer, circleDistance, circleDistanceAnswer, contains, containsAnswer, containsPoint, containsPointAnswer, intersects, intersectsAnswer}
 use Rattle.scope.specs.Links.{regions}
 use Rattle.scope.specs.Groups.{Clusters, Grouping, clusters, plainClusters, refusedGrouping, acceptedGrouping, grouping, areaGrouping, plainGrouping}
@@ -20,6 +20,7 @@ use Rattle.scope.specs.Packing.{Packing, columns, columnsAnswer, packed, refuse
 use Rattle.scope.specs.Container.{Contained, settled, refusedContainer, containedAnswer, contained}
 use Rattle.scope.specs.Layout.{Layout, arranged, refusedLayout, ifAccepted, layout}
 use Rattle.scope.specs.CardStock.{Charge, refusedCharge, stockFor, charged, cardStock}
+use Rattle.scope.specs.Touch.{Touched, refusedTouch, acceptedTouch, touching, countedTouch, touched}
 use Rattle.scope.specs.CardFile.{tag, body, fieldOf, fieldRefusal, readField, fieldBody, Card}
 use Rattle.scope.specs.Print.{cardText}
 use Rattle.scope.specs.Saving.{Saved, refusedSaving, acceptedSaving, saving, fileOf, writeCard, writeText}
@@ -125,6 +126,19 @@ unfolding layout ifAccepted arranged refusedLayout
 layout-answers cs factor masks areas proportion =
     by-number (λ l. l .result .refusal) (λ k. refusedLayout k cs) (λ k. ifAccepted k cs (arranged proportion cs factor (regions masks areas))) refl (λ k. refl) (λ k. refl)
     (layoutRefusal cs factor masks areas proportion)
+
+-- ---- a batch: the lent answers as they were
+
+pub counted-touch-answers : (m : ℕ) (cs : List Circle) (ps : List Point) (out : List ℕ)
+    → Answers (λ (t : Touched). t .refusal) (touchRefusal cs ps m (length out)) (countedTouch m cs ps out) (refusedTouch out) (acceptedTouch cs ps out)
+unfolding countedTouch touching
+counted-touch-answers m cs ps out =
+    by-number (λ t. t .refusal) (refusedTouch out) (λ k. touching k cs ps out) refl (λ k. refl) (λ k. refl) (touchRefusal cs ps m (length out))
+
+pub touch-answers : (cs : List Circle) (ps : List Point) (out : List ℕ)
+    → Answers (λ (t : Touched). t .refusal) (touchRefusal cs ps (length ps) (length out)) (touched cs ps out) (refusedTouch out) (acceptedTouch cs ps out)
+unfolding touched
+touch-answers cs ps out = counted-touch-answers (length ps) cs ps out
 
 -- ---- card stock: an amount of 0
 

@@ -8,6 +8,7 @@ use mathlib.Core.Bool.{Bool, true, false, cond}
 use mathlib.Core.List.{List, _∷_, map}
 use lib.ListN.{take, length, length-take, take-append-drop}
 use lib.Ieee.{Float}
+use Rattle.shapes.specs.declared.point.Point.{Point}
 use Rattle.shapes.specs.declared.circle.Circle.{Circle}
 use Rattle.shapes.specs.declared.rectangle.Rectangle.{Rectangle}
 use Rattle.scope.specs.Refusals.{Checks, frontToBack, tooMany}
@@ -17,18 +18,19 @@ use Rattle.scope.specs.Packing.{Packing, packed, refusedPacking, acceptedPackin
 use Rattle.scope.specs.Container.{Contained, settled, refusedContainer}
 use Rattle.scope.specs.Layout.{Layout, arranged, refusedLayout, layout}
 use Rattle.scope.specs.CardStock.{Charge, refusedCharge, stockFor}
+use Rattle.scope.specs.Touch.{Touched, refusedTouch, acceptedTouch}
 use Rattle.scope.specs.CardFile.{floatOf}
 use Rattle.scope.specs.Saving.{Saved, refusedSaving, acceptedSaving, fileOf, cardOf}
-use Rattle.scope.specs.Twins.{countedGrouping, firstGrouping, firstPacking, withOthers, firstLayout, withRest, firstContained, firstWritten, firstStock}
+use Rattle.scope.specs.Twins.{countedGrouping, firstGrouping, firstPacking, withOthers, firstLayout, withRest, firstContained, firstWritten, firstStock, firstTouched}
 use Rattle.laws.specs.BothWays.{Reads}
 use Rattle.laws.specs.Answers.{Answers}
-use Rattle.laws.specs.ByValue.{firstCirclesChecks, firstPackChecks, firstContainerChecks, firstLayoutChecks, firstStockChecks, firstWriterChecks}
+use Rattle.laws.specs.ByValue.{firstCirclesChecks, firstPackChecks, firstContainerChecks, firstLayoutChecks, firstStockChecks, firstTouchChecks, firstWriterChecks}
 use Rattle.laws.proofs.Cases.{is-false}
 use Rattle.laws.proofs.Accepted.{not-too-many-iff}
 use Rattle.laws.proofs.Counted.{few, by-many}
 use Rattle.laws.proofs.FrontToBack.{front-to-back-reads}
-use Rattle.laws.proofs.EntryPoints.{circles-reads, pack-reads, container-reads, layout-reads, stock-reads, writer-reads}
-use Rattle.laws.proofs.AfterRefusal.{plain-grouping-answers, packing-answers, container-answers, layout-answers, stock-answers, write-card-answers}
+use Rattle.laws.proofs.EntryPoints.{circles-reads, pack-reads, container-reads, layout-reads, stock-reads, touch-reads, writer-reads}
+use Rattle.laws.proofs.AfterRefusal.{plain-grouping-answers, packing-answers, container-answers, layout-answers, stock-answers, counted-touch-answers, write-card-answers}
 
 module _ {A : Type 0} {numberOf : A → ℕ} {refuse : ℕ → A} where
   -- a count that is too large before a call
@@ -126,6 +128,20 @@ module _ (n : ℕ) (cs : List Circle) (factor : Float) (masks : List ℕ) (areas
 
   pub first-stock-reads : Reads (firstStock n cs factor masks areas proportion cents .refusal) (firstStockChecks n cs factor masks areas proportion cents)
   first-stock-reads = rw (first-stock-answers .says) (front-to-back-reads _ tt)
+
+-- ---- a batch: the lent answers as they were
+
+module _ (n : ℕ) (cs : List Circle) (m : ℕ) (ps : List Point) (out : List ℕ) where
+  pub first-touch-answers :
+      Answers (λ (t : Touched). t .refusal) (frontToBack (firstTouchChecks n cs m ps (length out))) (firstTouched n cs m ps out) (refusedTouch out)
+      (acceptedTouch (take n cs) (take m ps) out)
+  unfolding firstTouched
+  first-touch-answers =
+      counted n _ _ (first-few n cs) (λ k. refl)
+      (rw (touch-reads (take n cs) (take m ps) m (length out) .runs) at (counted-touch-answers m (take n cs) (take m ps) out))
+
+  pub first-touch-reads : Reads (firstTouched n cs m ps out .refusal) (firstTouchChecks n cs m ps (length out))
+  first-touch-reads = rw (first-touch-answers .says) (front-to-back-reads _ tt)
 
 -- ---- saved: nothing written, the lent list as it was
 

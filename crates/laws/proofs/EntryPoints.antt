@@ -12,7 +12,7 @@ use Rattle.shapes.specs.declared.circle.Circle.{Circle}
 use Rattle.shapes.specs.declared.rectangle.Rectangle.{Rectangle}
 use Rattle.scope.specs.Runs.{any}
 use Rattle.scope.specs.Limits.{circleCap}
-use Rattle.scope.specs.Refusals.{causes, causeHolds, first, refusal, frontToBack, tooMany, unequal, tooManyRegions, badPoint, badCentre, badRadius, rising, badSide, badPadding, sameInk, pointsRefusal, pairRefusal, circlePointRefusal, circlesRefusal, regionsRefusal, columnsRefusal, packRefusal, containerRefusal, cardChecks, cardRefusal, layoutChecks, layoutRefusal, stockRefusal, tooShort, writerRefusal, textRefusal, badProportion, badPrice}
+use Rattle.scope.specs.Refusals.{causes, causeHolds, first, refusal, frontToBack, tooMany, unequal, tooManyRegions, badPoint, badCentre, badRadius, rising, badSide, badPadding, sameInk, pointsRefusal, pairRefusal, circlePointRefusal, circlesRefusal, regionsRefusal, columnsRefusal, packRefusal, containerRefusal, cardChecks, cardRefusal, layoutChecks, layoutRefusal, stockRefusal, tooShort, writerRefusal, textRefusal, badProportion, badPrice, touchChecks, touchRefusal}
 use Rattle.scope.specs.Distance.{noRoot, rootRefusal}
 use Rattle.scope.specs.CardFile.{Card, tag, headCut, bodyCut, unknown, wrongLength, misplaced, fieldRefusal, firstRefusal, nextRefusal}
 use Rattle.laws.specs.BothWays.{Reads}
@@ -82,6 +82,10 @@ writer-reads cs factor masks areas room size = as-front-to-back _ tt (simp or-fa
 pub text-reads : (room size : ℕ) → Reads (textRefusal room size) ((15, tooShort room size) ∷ [])
 unfolding textRefusal refusal first causeHolds causes frontToBack
 text-reads room size = as-front-to-back _ tt (simp or-false)
+
+pub touch-reads : (cs : List Circle) (ps : List Point) (m room : ℕ) → Reads (touchRefusal cs ps m room) (touchChecks cs ps m room)
+unfolding touchRefusal refusal first causeHolds causes frontToBack
+touch-reads cs ps m room = as-front-to-back _ tt (simp or-false)
 
 -- ---- the card file: each call's checks run front to back as they stand
 

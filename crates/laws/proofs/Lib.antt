@@ -6,6 +6,7 @@ pub mod Regions
 pub mod Chains
 pub mod Numbering
 pub mod Numbers
+pub mod Between
 pub mod Swapped
 pub mod Overlap
 pub mod AfterRefusal
@@ -29,3 +30,4 @@ pub mod Fields
 pub mod Saving
 pub mod Bodies
 pub mod NextFields
+pub mod Touch

@@ -3,11 +3,12 @@ use mathlib.Core.Path.{_≡_, refl, sym, ap, _∙_, subst}
 use mathlib.Core.Bool.{Bool, true, false, not, _&&_, _||_}
 use mathlib.Core.Logic.{_↔_, inl, inr, ⊎-elim}
 use Prim.Native.Nat.{ℕ, zero, suc, _+_, _-_, _*_, _/_, _%_, _^_, _≤_, _<_, min, max}
-use native.Mathlib.Nat.{pow-succ', add-mul-div-left, add-div-right, div-div-eq-div-mul, div-eq-of-lt, le-div-iff-mul-le, zero-add, one-mul, sub-add-cancel}
+use native.Mathlib.Nat.{pow-succ', add-mul-div-left, add-div-right, div-div-eq-div-mul, div-eq-of-lt, le-div-iff-mul-le, zero-add, one-mul, sub-add-cancel, lt-of-lt-of-le}
 use native.Mathlib.Omega.{arith}
+use native.Mathlib.Numerals.{add-one}
 use lib.Bits.{bitAnd, bitOr, bitXor, differ, and-step, and-shr, or-step, or-shr, xor-step, xor-shr}
 use lib.Dec.{T, eqb}
-use lib.Pow.{pow-pos, pow-add}
+use lib.Pow.{pow-pos, pow-add, pow-mono}
 use Rattle.algebra.proofs.Size.{either}
 use Rattle.scope.specs.Runs.{bit}
 use Rattle.laws.proofs.Cases.{or-iff, eqb-iff}
@@ -163,3 +164,10 @@ power-has-one-bit p q t = elim (either p q) [
   | inl l ↦ absurd (no-bits q (bit-put-other 0 p q (no-bits p) (λ e. omega arith) .0 (rw zero-add t)))
   | inr l ↦ elim (either q p) [ inl k ↦ absurd (no-bits q (bit-put-other 0 p q (no-bits p) (λ e. omega arith) .0 (rw zero-add t))) | inr k ↦ omega arith ]
 ]
+
+-- ---- a mask of places below i, with place i put in: it has room in a word of w places
+pub put-grows : (m i : ℕ) → m < 2 ^ i → m + 2 ^ i < 2 ^ (i + 1)
+put-grows m i h = rw (add-one i, pow-succ' 2 i) (omega arith)
+
+pub put-fits : (w m i : ℕ) → i < w → m < 2 ^ i → m + 2 ^ i < 2 ^ w
+put-fits w m i l h = lt-of-lt-of-le (put-grows m i h) (pow-mono {i = i + 1} {j = w} (omega arith))

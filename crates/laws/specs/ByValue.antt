@@ -4,11 +4,12 @@ use mathlib.Core.Bool.{not, _||_}
 use mathlib.Core.List.{List, [], _∷_, _++_, map}
 use lib.ListN.{length, take}
 use lib.Ieee.{Float}
+use Rattle.shapes.specs.declared.point.Point.{Point}
 use Rattle.shapes.specs.declared.circle.Circle.{Circle}
 use Rattle.shapes.specs.declared.rectangle.Rectangle.{Rectangle}
 use Rattle.scope.specs.Runs.{any}
 use Rattle.scope.specs.Refusals.{Checks, tooMany, unequal, tooManyRegions, badPoint, badCentre, badRadius, rising}
-use Rattle.scope.specs.Refusals.{badFactor, badSide, badPadding, sameInk, tooShort, badProportion, badPrice}
+use Rattle.scope.specs.Refusals.{badFactor, badSide, badPadding, sameInk, tooShort, badProportion, badPrice, tooManyPoints, tooFewAnswers}
 use Rattle.scope.specs.CardFile.{floatOf}
 use Rattle.scope.specs.Saving.{fileOf, cardOf}
 
@@ -40,6 +41,12 @@ firstLayoutChecks n cs factor masks areas proportion = firstCardChecks n cs fact
 -- the charge for card stock
 abbrev pub firstStockChecks : ℕ → List Circle → Float → List ℕ → List Float → Float → ℕ → Checks
 firstStockChecks n cs factor masks areas proportion cents = firstLayoutChecks n cs factor masks areas proportion ++ (17, badPrice cents) ∷ []
+
+-- `touch_points`: of the first m points of an array, and a list of `room` answers
+abbrev pub firstTouchChecks : ℕ → List Circle → ℕ → List Point → ℕ → Checks
+firstTouchChecks n cs m ps room =
+    (1, tooMany n) ∷ (3, any badCentre (take n cs) || any badPoint (take m ps)) ∷ (4, any badRadius (take n cs)) ∷ (14, sameInk (take n cs))
+    ∷ (18, tooManyPoints m) ∷ (19, tooFewAnswers room m) ∷ []
 
 -- `write_card`: an area is that of its pattern, and the size that of the file of the first n circles
 abbrev pub firstWriterChecks : ℕ → List Circle → Float → List ℕ → List ℕ → List ℕ → Checks

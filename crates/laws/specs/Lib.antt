@@ -6,3 +6,4 @@ pub mod Fields
 pub mod ByValue
 pub mod Inks
 pub mod Limits
+pub mod Touch

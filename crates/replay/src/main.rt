@@ -9,19 +9,23 @@ mod hypots;
 mod layouts;
 mod places;
 mod read;
+mod touches;
 
 use libc::STDIN_FILENO;
 use libc::STDOUT_FILENO;
 ghost use Prim.Native.Nat.{_<_};
 
-const KINDS: usize = 13;
+const KINDS: usize = 15;
+
+// The fields of a card file, which only the C interface answers.
+const FIELDS: usize = 14;
 
 // More records than any list has.
 const BUDGET: u64 = 100000000;
 
 struct Tally {
-    seen: [u64; 14],
-    agreed: [u64; 14],
+    seen: [u64; 16],
+    agreed: [u64; 16],
 }
 
 // What one record came to: the end, or its kind, plus 100 where it agrees.
@@ -44,6 +48,7 @@ fn main() {
     line(b"whole layouts ", tally.agreed[11], tally.seen[11]);
     line(b"charges ", tally.agreed[12], tally.seen[12]);
     line(b"hypot ", tally.agreed[13], tally.seen[13]);
+    line(b"touches ", tally.agreed[15], tally.seen[15]);
     line(b"malformed ", tally.agreed[0], tally.seen[0]);
 }
 
@@ -57,8 +62,8 @@ fn line(name: &[u8], agreed: u64, seen: u64) {
 
 // A record of no known kind, or one that is cut, counts as one of kind 0.
 fn all() -> Tally {
-    let mut seen = [0u64; 14];
-    let mut agreed = [0u64; 14];
+    let mut seen = [0u64; 16];
+    let mut agreed = [0u64; 16];
     let mut turn: u64 = 0;
     while turn < BUDGET {
         let outcome = next();
@@ -66,7 +71,7 @@ fn all() -> Tally {
             return Tally { seen, agreed };
         }
         let kind = outcome % AGREES;
-        if kind < 14 {
+        if kind < 16 {
             seen[kind] = more(seen[kind]);
             if outcome >= AGREES {
                 agreed[kind] = more(agreed[kind]);
@@ -101,6 +106,9 @@ fn next() -> usize {
         return 0;
     }
     if kind > KINDS {
+        return 0;
+    }
+    if kind == FIELDS {
         return 0;
     }
     if agrees_on(kind, &body, length) {
@@ -147,6 +155,7 @@ fn agrees(kind: usize, body: &[u8]) -> bool {
         11 => layouts::layout_agrees(body),
         12 => charges::charge_agrees(body),
         13 => hypots::hypot_agrees(body),
+        15 => touches::touches_agree(body),
         _ => false,
     }
 }

@@ -10,11 +10,11 @@ use lib.Pow.{pow-pos}
 use lib.Ieee.{Float, nan, inf, fin, Format, prec, emax, low, up, down, round, sum, add, sub, neg}
 use lib.Ieee.Fits.{down-pos}
 use lib.Ieee.Scale.{finite}
-use Rattle.algebra.specs.Integer.{Z, Within, _⊕_, _⊖_, _≈_}
+use Rattle.algebra.specs.Integer.{Z, nat, Within, _⊕_, _⊖_, _≈_}
 use Rattle.algebra.proofs.Size as algebra
 use Rattle.rounding.specs.Value.{mag, signed, negative, val, Fin}
-use Rattle.rounding.proofs.Value.{value-of}
-use Rattle.rounding.proofs.Rounded.{RoundOf, Rounded, Relative, recast, round-near, round-relative, sign-kept}
+use Rattle.rounding.proofs.Value.{value-of, val-mag}
+use Rattle.rounding.proofs.Rounded.{RoundOf, Rounded, Relative, recast, round-near, round-relative, round-below, sign-kept}
 use Rattle.rounding.proofs.Negate.{neg-val, neg-fin}
 
 -- ---- two fractions a / c and b / c, which are A and B units
@@ -145,3 +145,20 @@ add-sign f (fin s m e) (inf t) h k = k
 add-sign f (fin true m e) (fin t n d) h k = absurd (true≢false h)
 add-sign f (fin false m e) (fin true n d) h k = absurd (true≢false k)
 add-sign f (fin false m e) (fin false n d) h k = sign-kept f false (m * up e * down d + n * up d * down e) (down e * down d)
+
+-- so its size is the rounding of the sum of theirs
+module _ (f : Format) (x y : Float) (p : Fin f x) (q : Fin f y) (s : negative x ≡ false) (t : negative y ≡ false) where
+  pub sizes-summed : RoundOf f (add f x y) (add-is f x y p q .sign) (mag f x + mag f y) 1
+  sizes-summed =
+      let r = add-is f x y p q in
+      subst (λ (a : ℕ). RoundOf f (add f x y) (r .sign) a 1) (size-is (r .sign) (r .size) (mag f x) (mag f y) (rw (val-mag f x s, val-mag f y t) at (r .value))) (sum-round f x y p q)
+    where
+      size-is : (s : Bool) (a x y : ℕ) → signed s a ≈ nat x ⊕ nat y → a ≡ x + y
+      size-is true a x y h = omega arith
+      size-is false a x y h = omega arith
+
+  pub sum-relative : T (finite (add f x y)) → Relative f (add f x y) (mag f x + mag f y) 1
+  sum-relative = round-relative sizes-summed
+
+  pub sum-below : (k : ℕ) → mag f x + mag f y ≤ 2 ^ (prec f + k) * 1 → prec f + k ≤ low f + emax f → Relative f (add f x y) (mag f x + mag f y) 1
+  sum-below = round-below sizes-summed

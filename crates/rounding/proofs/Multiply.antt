@@ -1,5 +1,5 @@
 -- The product: one rounding of the exact product, which is mag x * mag y / 2 ^ low units.
-use mathlib.Core.Path.{_≡_, refl, ap, _∙_}
+use mathlib.Core.Path.{_≡_, refl, ap}
 use Prim.Native.Nat.{ℕ, _+_, _*_, _^_, _≤_}
 use native.Mathlib.Nat.{mul-pos}
 use native.Mathlib.Omega.{arith}
@@ -10,7 +10,7 @@ use lib.Ieee.Fits.{down-pos}
 use Rattle.algebra.specs.Integer.{Within, _⊗_, _≈_}
 use Rattle.rounding.specs.Value.{mag, signed, negative, val, Fin}
 use Rattle.rounding.proofs.Value.{value-of}
-use Rattle.rounding.proofs.Rounded.{RoundOf, Rounded, recast, round-near, round-sign}
+use Rattle.rounding.proofs.Rounded.{RoundOf, Rounded, recast, round-near, round-sign, sign-kept}
 
 -- m / e is A units and n / d is B
 pub both : (m n e d l A B : ℕ) → m * l ≡ A * e → n * l ≡ B * d → m * n * l * l ≡ A * B * (e * d)
@@ -53,9 +53,11 @@ module _ (f : Format) (x y : Float) (p : Fin f x) (q : Fin f y) where
   pub mul-sign : negative (mul f x y) ≡ unlike (negative x) (negative y)
   mul-sign = round-sign (mul-is f x y p q)
 
-pub square-sign : (f : Format) (x : Float) → Fin f x → negative (mul f x x) ≡ false
-square-sign f x p = mul-sign f x x p p ∙ self (negative x)
-  where
-    self : (b : Bool) → unlike b b ≡ false
-    self true = refl
-    self false = refl
+-- a square is not negative, finite or not: a NaN counts as not negative
+pub square-sign : (f : Format) (x : Float) → negative (mul f x x) ≡ false
+unfolding mul negative
+square-sign f nan = refl
+square-sign f (inf true) = refl
+square-sign f (inf false) = refl
+square-sign f (fin true m e) = sign-kept f false _ _
+square-sign f (fin false m e) = sign-kept f false _ _

@@ -1,7 +1,7 @@
 -- The order of floats is the order of their values, both ways.
 use mathlib.Core.Path.{_≡_, ap}
 use mathlib.Core.Logic.{_⊎_, inl, inr, _↔_}
-use Prim.Native.Nat.{ℕ, _+_, _*_, _^_, _<_}
+use Prim.Native.Nat.{ℕ, _+_, _*_, _^_, _≤_, _<_}
 use native.Mathlib.Nat.{mul-pos, lt-of-mul-lt-mul-right, mul-lt-mul-of-pos-right, eq-of-mul-eq-mul-right, eq-or-lt-of-le}
 use native.Mathlib.Omega.{arith}
 use mathlib.Core.Bool.{Bool, true, false, _&&_, _||_}
@@ -11,8 +11,8 @@ use lib.Pow.{pow-pos}
 use lib.Ieee.{Float, nan, inf, fin, Format, low, up, down, lt, le, eq, below, level}
 use lib.Ieee.Fits.{and-l, and-r, and-i, eq→eqb, down-pos}
 use Rattle.algebra.specs.Integer.{_≈_, _≺_, _≼_}
-use Rattle.rounding.specs.Value.{mag, signed, val, Fin}
-use Rattle.rounding.proofs.Value.{value-of}
+use Rattle.rounding.specs.Value.{mag, signed, negative, val, Fin}
+use Rattle.rounding.proofs.Value.{value-of, val-mag}
 use Rattle.rounding.proofs.Add.{over-left, over-right}
 
 -- ---- a * l = A * c: a / c is A units
@@ -108,3 +108,15 @@ le-is f x y p q = (
   λ h. elim (or-split (lt x y) (eq x y) h) [ inl u ↦ let z = lt-is f x y p q .0 u in omega arith | inr u ↦ let z = eq-is f x y p q .0 u in omega arith ],
   λ h. elim (eq-or-lt-of-le h) [ inl u ↦ or-right (lt x y) (eq x y) (eq-is f x y p q .1 u) | inr u ↦ or-left (lt x y) (eq x y) (lt-is f x y p q .1 u) ],
 )
+
+pub lt-le : (x y : Float) → T (lt x y) → T (le x y)
+unfolding le
+lt-le x y = or-left (lt x y) (eq x y)
+
+-- ---- of two numbers that are not negative it is the order of their sizes
+module _ (f : Format) (x y : Float) (p : Fin f x) (q : Fin f y) (s : negative x ≡ false) (t : negative y ≡ false) where
+  pub lt-sizes : T (lt x y) → mag f x < mag f y
+  lt-sizes h = let l = rw (val-mag f x s, val-mag f y t) at (lt-is f x y p q .0 h) in omega arith
+
+  pub le-sizes : T (le x y) ↔ (mag f x ≤ mag f y)
+  le-sizes = let o = rw (val-mag f x s, val-mag f y t) at (le-is f x y p q) in (λ h. let l = o .0 h in omega arith, λ h. o .1 (omega arith))

@@ -12,7 +12,7 @@ use lib.Ieee.Order.{drop, kept}
 use lib.Ieee.Scale.{finite}
 use Rattle.algebra.specs.Integer.{Z, nat, Within, Near, _⊕_, _⊗_, _≈_}
 use Rattle.rounding.specs.Value.{mag, signed, negative, val, Fin}
-use Rattle.rounding.proofs.Value.{mag-of, val-of, fin-of}
+use Rattle.rounding.proofs.Value.{mag-of, val-of, fin-of, fin-finite}
 use Rattle.rounding.proofs.Round.{rnd, rnd-near, rnd-relative, rnd-exact, round-units, round-finite, no-overflow}
 use Rattle.rounding.proofs.Closest.{Half}
 
@@ -116,6 +116,10 @@ module _ {f : Format} {z : Float} {s : Bool} {a d : ℕ} (r : RoundOf f z s a d)
         above = rw m (le-of-mul-le-mul-right {k = den} (omega (arith, mul-le-mul-right d (h .0))) (r .den-pos));
         below = rw m (le-of-mul-le-mul-right {k = den} (omega (arith, mul-le-mul-right d (h .1))) (r .den-pos));
       })
+
+  -- below a bound it is
+  pub round-below : (k : ℕ) → a ≤ 2 ^ (prec f + k) * d → prec f + k ≤ low f + emax f → Relative f z a d
+  round-below k h o = round-relative (fin-finite f z (round-near k h o .fin))
 
   -- a fraction that is q * 2 ^ j units, q at most 2 ^ prec, is kept
   pub round-exact : (q j : ℕ) → a ≡ q * 2 ^ j * d → q ≤ 2 ^ prec f → q * 2 ^ j < 2 ^ (low f + suc (emax f)) → Exact f z s q j

@@ -3,7 +3,7 @@ use mathlib.Core.Path.{_≡_, refl, sym, ap, _∙_, subst}
 use Prim.Native.Nat.{ℕ, zero, suc, _+_, _-_, _*_, _/_, _%_, _^_, _≤_, _<_}
 use native.Mathlib.Nat.{mul-assoc, mul-comm, mul-one, one-mul, zero-mul, zero-div, mul-div-cancel, mul-le-mul-right, lt-of-not-le, not-le-of-lt, le-of-suc-le-suc, lt-of-mul-lt-mul-right, mul-lt-mul-of-pos-right}
 use native.Mathlib.Omega.{arith}
-use mathlib.Core.Bool.{Bool, false, _&&_}
+use mathlib.Core.Bool.{Bool, true, false, _&&_}
 use lib.IntN.{ℤ, pos, negsuc}
 use lib.Dec.{T, leb, ltb, eqb, leb→le, ltb→lt, eqb→eq}
 use lib.Pow.{pow-pos, pow-lt, pow-add}
@@ -11,7 +11,7 @@ use lib.Ieee.{Float, nan, inf, fin, Format, prec, emax, low, up, down, fits, rou
 use lib.Ieee.Fits.{and-l, and-r, and-i, up-pos, down-pos, round-fits}
 use lib.Ieee.Exact.{HasValue}
 use lib.Ieee.Scale.{finite}
-use Rattle.algebra.specs.Integer.{nat}
+use Rattle.algebra.specs.Integer.{nat, _≼_}
 use Rattle.rounding.specs.Value.{mag, signed, negative, val, Fin}
 
 -- ---- from the kit's words to these
@@ -134,3 +134,12 @@ mag-below f (fin s (suc m) e) h =
 pub val-mag : (f : Format) (x : Float) → negative x ≡ false → val f x ≡ nat (mag f x)
 unfolding val
 val-mag f x h = ap (λ (s : Bool). signed s (mag f x)) h
+
+-- a value above 0 has the sign false
+pub above-zero-sign : (f : Format) (x : Float) → nat 1 ≼ val f x → negative x ≡ false
+unfolding val
+above-zero-sign f x h = go (negative x) (mag f x) h
+  where
+    go : (s : Bool) (a : ℕ) → nat 1 ≼ signed s a → s ≡ false
+    go false a h = refl
+    go true a h = absurd (omega arith)

@@ -1,4 +1,4 @@
-// Clustering, packing and layouts of the records that a caller lends, and what the sheet of a layout costs.
+// Clustering, packing and layouts of the records that a caller lends, what the sheet of a layout costs, and the circles under touch points.
 ghost use mathlib.Core.Path.{_≡_};
 ghost use Rattle.scope.specs.Links.{regions};
 ghost use Rattle.scope.specs.Groups.{plainGrouping, areaGrouping};
@@ -6,12 +6,14 @@ ghost use Rattle.scope.specs.Packing.{skylinePack};
 ghost use Rattle.scope.specs.Container.{contained};
 ghost use Rattle.scope.specs.Layout.{layout};
 ghost use Rattle.scope.specs.CardStock.{cardStock};
+ghost use Rattle.scope.specs.Touch.{touched};
 ghost use Rattle.scope.specs.Promises.{Promises};
 ghost use Rattle.promises.specs.Demand3.{bound};
 ghost use Rattle.clustering.specs.Answers.{grouped, NumbersByChains};
 ghost use Rattle.packing.specs.Answers.{packedBoxes};
 ghost use Rattle.layout.specs.Answers.{resultOf, placedOf};
 ghost use Rattle.card_stock.specs.Answers.{chargeOf};
+ghost use Rattle.touch.specs.Answers.{touchOf};
 use card_stock::Charge;
 use card_stock::card_stock;
 use clustering::Clusters;
@@ -24,7 +26,9 @@ use layout::normalize::normalize_layout_with_clusters;
 use packing::Packed;
 use packing::skyline_pack;
 use shapes::circle::Circle;
+use shapes::point::Point;
 use shapes::rectangle::Rectangle;
+use touch::touch_points;
 
 #[no_mangle]
 pub extern "C" fn rundhefja_clusters(circles: &[Circle]) -> Clusters
@@ -88,4 +92,15 @@ pub extern "C" fn rundhefja_card_stock(
     ensures { λ r. ⌜ chargeOf r ≡ cardStock (now (circles .entry)) factor (now (masks .entry)) (now (areas .entry)) proportion cents ⌝ }
 {
     card_stock(circles, factor, masks, areas, proportion, cents)
+}
+
+#[no_mangle]
+pub extern "C" fn rundhefja_touch_points(
+    circles: &[Circle],
+    points: &[Point],
+    answers: &mut [u64],
+) -> u8
+    ensures { λ r. ⌜ touchOf r (now (answers .exit)) ≡ touched (now (circles .entry)) (now (points .entry)) (now (answers .entry)) ⌝ }
+{
+    touch_points(circles, points, answers)
 }

@@ -1,6 +1,6 @@
 -- More samples, proved by computation: document 01's "By program" and "Mistakes to catch", each refusal of the card reader, ends of ranges, distances, the
--- writer, proportions, packed rows and card stock.
-use Prim.Native.Nat.{ℕ, _-_, _/_, _%_, _^_}
+-- writer, proportions, packed rows, card stock and touch points.
+use Prim.Native.Nat.{ℕ, _-_, _*_, _/_, _%_, _^_}
 use mathlib.Core.Path.{_≡_, refl}
 use mathlib.Core.Bool.{Bool, true, false}
 use mathlib.Core.List.{List, [], _∷_, _++_, map}
@@ -10,6 +10,7 @@ use lib.Dec.{eqb}
 use lib.ListN.{getD, replicate, take}
 use lib.Ieee.{Float, nan, inf, fin, binary64, neg, ofBits, toBits}
 use Rattle.shapes.specs.Limits.{smallestRadius}
+use Rattle.shapes.specs.declared.point.Point.{Point}
 use Rattle.shapes.specs.declared.circle.Circle.{Circle}
 use Rattle.shapes.specs.declared.rectangle.Rectangle.{Rectangle}
 use Rattle.scope.specs.Numbers.{nought, one, two, half, whole, e-10, golden}
@@ -27,11 +28,12 @@ use Rattle.scope.specs.Packing.{skylinePack, columnsAnswer, rows, noRect
 use Rattle.scope.specs.Container.{contained}
 use Rattle.scope.specs.Layout.{layout, refusedLayout}
 use Rattle.scope.specs.CardStock.{refusedCharge, cardStock}
+use Rattle.scope.specs.Touch.{refusedTouch, touched}
 use Rattle.scope.specs.CardFile.{factorField, circleField, regionField, Card, readField, fieldBody, nextRefusal, readCard}
 use Rattle.scope.specs.Text.{bytes}
 use Rattle.scope.specs.Print.{cardText, float}
 use Rattle.scope.specs.Saving.{cardOf, fileOf, refusedSaving, writeCard, writeText}
-use Rattle.scope.specs.Twins.{firstWritten, firstStock}
+use Rattle.scope.specs.Twins.{firstWritten, firstStock, firstTouched}
 use Rattle.scope.specs.Computing.{computing}
 use Rattle.scope.specs.Samples.{wholeCircle, grouped, fileJ}
 
@@ -710,4 +712,77 @@ stocks =
       ink-first = refl;
       first-one = refl;
       too-many = refl;
+    }
+
+-- ---- document 02, 8/14: touch points
+
+abbrev pub wholePoint : ℕ → ℕ → Point
+wholePoint x y = pointAt (whole x) (whole y)
+
+-- a circle, a small one inside it, and one far off
+abbrev pub three : List Circle
+three = wholeCircle 0 0 5 1 ∷ wholeCircle 3 0 1 2 ∷ wholeCircle 100 0 1 3 ∷ []
+
+-- two circles of one ink
+abbrev pub alike : List Circle
+alike = wholeCircle 0 0 5 1 ∷ wholeCircle 3 0 1 1 ∷ []
+
+-- as many points as there may be, and as many answers of 7
+abbrev pub fullBatch : List Point
+fullBatch = replicate 1024 (wholePoint 9 9)
+
+abbrev pub sevens : ℕ → List ℕ
+sevens n = replicate n 7
+
+pub record TouchChecks : Type 0 where
+  -- on the first one's edge, in two circles, on the edge of the third, in none; "answers beyond the point count are untouched"
+  pub four-points : touched three (wholePoint 3 4 ∷ wholePoint 3 0 ∷ wholePoint 100 1 ∷ wholePoint 50 50 ∷ []) (sevens 6)
+      ≡ record { refusal = 0; answers = 1 ∷ 3 ∷ 4 ∷ 0 ∷ 7 ∷ 7 ∷ [] }
+  -- the f64 next above 5 is outside
+  pub past-the-edge : touched three (pointAt nought (ofBits binary64 0x4014_0000_0000_0001) ∷ []) (sevens 1) ≡ record { refusal = 0; answers = 0 ∷ [] }
+  -- no circles, no points
+  pub no-circles : touched [] (wholePoint 0 0 ∷ []) (sevens 2) ≡ record { refusal = 0; answers = 0 ∷ 7 ∷ [] }
+  pub no-points : touched three [] (sevens 2) ≡ record { refusal = 0; answers = sevens 2 }
+  -- the last circle of 64 is the highest bit
+  pub highest : touched (tab 64 (λ i. wholeCircle (10 * i) 0 1 i)) (wholePoint 630 0 ∷ []) (sevens 1) ≡ record { refusal = 0; answers = 2 ^ 63 ∷ [] }
+  -- "up to 1,024 points"; equal length serves
+  pub full : touched [] fullBatch (sevens 1024) ≡ record { refusal = 0; answers = replicate 1024 0 }
+  pub one-more : touched [] (wholePoint 9 9 ∷ fullBatch) (sevens 1025) ≡ refusedTouch (sevens 1025) 18
+  pub short : touched three (wholePoint 3 4 ∷ wholePoint 3 0 ∷ []) (sevens 1) ≡ refusedTouch (sevens 1) 19
+  -- "in that order after 17": 18 before 19, and what the circles give before both
+  pub many-before-short : touched [] (wholePoint 9 9 ∷ fullBatch) [] ≡ refusedTouch [] 18
+  pub ink-before-many : touched alike (wholePoint 9 9 ∷ fullBatch) [] ≡ refusedTouch [] 14
+  pub ink-before-short : touched alike (wholePoint 9 9 ∷ []) [] ≡ refusedTouch [] 14
+  -- "Points obey the coordinate range (3)", each of them, and before a radius
+  pub bad-point : touched three (wholePoint 3 4 ∷ pointAt nought nan ∷ []) (sevens 2) ≡ refusedTouch (sevens 2) 3
+  pub bad-point-past-the-last : touched [] (fullBatch ++ wholePoint 1048577 0 ∷ []) [] ≡ refusedTouch [] 3
+  pub point-before-radius : touched (wholeCircle 0 0 0 1 ∷ []) (pointAt (inf true) nought ∷ []) [] ≡ refusedTouch [] 3
+  pub bad-radius : touched (wholeCircle 0 0 0 1 ∷ []) (wholePoint 1048576 0 ∷ []) [] ≡ refusedTouch [] 4
+  -- of arrays, the first n circles and the first m points
+  pub first-ones : firstTouched 1 alike 1 (wholePoint 3 0 ∷ pointAt nan nan ∷ []) (sevens 2) ≡ record { refusal = 0; answers = 1 ∷ 7 ∷ [] }
+  pub too-many-by-count : firstTouched 65 [] 1 (pointAt nan nan ∷ []) [] ≡ refusedTouch [] 1
+  pub too-many-points-by-count : firstTouched 0 [] 1025 fullBatch [] ≡ refusedTouch [] 18
+
+pub touches : TouchChecks
+unfolding computing
+touches =
+    record {
+      four-points = refl;
+      past-the-edge = refl;
+      no-circles = refl;
+      no-points = refl;
+      highest = refl;
+      full = refl;
+      one-more = refl;
+      short = refl;
+      many-before-short = refl;
+      ink-before-many = refl;
+      ink-before-short = refl;
+      bad-point = refl;
+      bad-point-past-the-last = refl;
+      point-before-radius = refl;
+      bad-radius = refl;
+      first-ones = refl;
+      too-many-by-count = refl;
+      too-many-points-by-count = refl;
     }

@@ -16,6 +16,7 @@ pub mod Centring
 pub mod Layout
 pub mod Container
 pub mod CardStock
+pub mod Touch
 pub mod Twins
 pub mod CardFile
 pub mod Text

@@ -15,6 +15,10 @@ circleCap = 64
 unfoldable pub regionCap : ℕ
 regionCap = 2048
 
+-- document 02, 8/14: "up to 1,024 points together"
+unfoldable pub pointCap : ℕ
+pointCap = 1024
+
 -- "a file of at most 65,536 bytes"
 unfoldable pub inputCap : ℕ
 inputCap = 65536

@@ -9,12 +9,12 @@ use Rattle.shapes.specs.declared.point.Point.{Point}
 use Rattle.shapes.specs.declared.circle.Circle.{Circle}
 use Rattle.shapes.specs.declared.rectangle.Rectangle.{Rectangle}
 use Rattle.scope.specs.Runs.{any}
-use Rattle.scope.specs.Limits.{circleCap, regionCap, coordinateOk, radiusOk, factorOk, sideOk, paddingOk, proportionOk, priceOk}
+use Rattle.scope.specs.Limits.{circleCap, regionCap, pointCap, coordinateOk, radiusOk, factorOk, sideOk, paddingOk, proportionOk, priceOk}
 
 -- ---- "The lowest wins, but 13 goes before 2." Document 02, 1/14: 14 is "looked for after every check of document 01"; 2/14: 15 is "after all value checks";
--- 3/14: 16 is "checked after 15"; 5/14: 17 is "after 16".
+-- 3/14: 16 is "checked after 15"; 5/14: 17 is "after 16"; 8/14: 18 and 19 are "in that order after 17".
 unfoldable pub causes : List ℕ
-causes = 1 ∷ 13 ∷ 2 ∷ 3 ∷ 4 ∷ 5 ∷ 6 ∷ 7 ∷ 8 ∷ 9 ∷ 10 ∷ 11 ∷ 12 ∷ 14 ∷ 15 ∷ 16 ∷ 17 ∷ []
+causes = 1 ∷ 13 ∷ 2 ∷ 3 ∷ 4 ∷ 5 ∷ 6 ∷ 7 ∷ 8 ∷ 9 ∷ 10 ∷ 11 ∷ 12 ∷ 14 ∷ 15 ∷ 16 ∷ 17 ∷ 18 ∷ 19 ∷ []
 
 -- What a call checks: numbers, and whether the cause of each holds.
 abbrev pub Checks : Type 0
@@ -115,6 +115,14 @@ badProportion x = not (proportionOk x)
 unfoldable pub badPrice : ℕ → Bool
 badPrice cents = not (priceOk cents)
 
+-- 18, "More than 1,024 points"
+unfoldable pub tooManyPoints : ℕ → Bool
+tooManyPoints m = ltb pointCap m
+
+-- 19, "an answer list shorter than the point list"
+unfoldable pub tooFewAnswers : ℕ → ℕ → Bool
+tooFewAnswers room m = ltb room m
+
 -- ---- what each call checks; 9, 10 and 11 stand with the card file, 12 with the root. "Duplicate ink numbers give 14 wherever a call takes a list of circles"
 
 -- the distance of two points
@@ -174,6 +182,15 @@ layoutRefusal cs factor masks areas proportion = refusal (layoutChecks cs factor
 -- the charge for card stock: a layout's values, then the price
 unfoldable pub stockRefusal : List Circle → Float → List ℕ → List Float → Float → ℕ → ℕ
 stockRefusal cs factor masks areas proportion cents = refusal (layoutChecks cs factor masks areas proportion ++ (17, badPrice cents) ∷ [])
+
+-- a batch of m points, those handed in being ps, with an output of `room` answers: "Points obey the coordinate range (3)"
+abbrev pub touchChecks : List Circle → List Point → ℕ → ℕ → Checks
+touchChecks cs ps m room =
+    (1, tooMany (length cs)) ∷ (3, any badCentre cs || any badPoint ps) ∷ (4, any badRadius cs) ∷ (14, sameInk cs) ∷ (18, tooManyPoints m)
+    ∷ (19, tooFewAnswers room m) ∷ []
+
+unfoldable pub touchRefusal : List Circle → List Point → ℕ → ℕ → ℕ
+touchRefusal cs ps m room = refusal (touchChecks cs ps m room)
 
 -- the card writer, with an output of `room` bytes for a file of `size`: a card's values, then the output
 unfoldable pub writerRefusal : List Circle → Float → List ℕ → List Float → ℕ → ℕ → ℕ

@@ -5,6 +5,7 @@ use mathlib.Core.Bool.{cond}
 use mathlib.Core.List.{List, _++_}
 use lib.ListN.{take, drop}
 use lib.Ieee.{Float}
+use Rattle.shapes.specs.declared.point.Point.{Point}
 use Rattle.shapes.specs.declared.circle.Circle.{Circle}
 use Rattle.shapes.specs.declared.rectangle.Rectangle.{Rectangle}
 use Rattle.scope.specs.Refusals.{tooMany}
@@ -13,6 +14,7 @@ use Rattle.scope.specs.Packing.{Packing, refusedPacking, skylinePack}
 use Rattle.scope.specs.Container.{Contained, refusedContainer, contained}
 use Rattle.scope.specs.Layout.{Layout, layout, refusedLayout}
 use Rattle.scope.specs.CardStock.{Charge, refusedCharge, cardStock}
+use Rattle.scope.specs.Touch.{Touched, refusedTouch, countedTouch}
 use Rattle.scope.specs.Saving.{Saved, refusedSaving, cardOf, writeCard}
 
 -- what is answered of n records, unless there are too many
@@ -57,3 +59,8 @@ firstWritten n cs factor masks patterns out = unlessMany n (refusedSaving out 1)
 -- ---- `card_stock`: the charge for the layout of the first n circles of an array
 unfoldable pub firstStock : ℕ → List Circle → Float → List ℕ → List Float → Float → ℕ → Charge
 firstStock n cs factor masks areas proportion cents = unlessMany n (refusedCharge 1) (cardStock (take n cs) factor masks areas proportion cents)
+
+-- ---- `touch_points`: the first m points of an array over the first n circles of another. A count of points above the cap gives 18, unless a circle or a point of
+-- the array is refused before.
+unfoldable pub firstTouched : ℕ → List Circle → ℕ → List Point → List ℕ → Touched
+firstTouched n cs m ps out = unlessMany n (refusedTouch out 1) (countedTouch m (take n cs) (take m ps) out)

@@ -111,7 +111,7 @@ squared a p l =
     let w = within-mag a (pow2 60) l in
     let r = mul64 6 tt a a p p (within-mul w w) in
     let sizes = close-sizes false (size a * size a) (mag-square a) r in
-    record { fin = r .fin; sign = square-sign binary64 a p; above = sizes .0; below = sizes .1; small = mag-le (a *ᶠ a) (pow2 60) (r .within) }
+    record { fin = r .fin; sign = square-sign binary64 a; above = sizes .0; below = sizes .1; small = mag-le (a *ᶠ a) (pow2 60) (r .within) }
 
 -- ---- h: S is a² + b² within 2^-52, and h its root within 2^-53
 record Rooted (S h : Float) : Type 0 where

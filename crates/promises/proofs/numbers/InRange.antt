@@ -1,15 +1,13 @@
--- The ranges of radii and of the factor read as bounds in units: what passes the test of a range is finite and lies between its ends.
+-- The ranges of radii and of the factor read as bounds in units.
 use Prim.Native.Nat.{ℕ}
 use native.Mathlib.Omega.{arith}
 use mathlib.Core.Path.{_≡_}
-use mathlib.Core.Bool.{true, false, _&&_}
+use mathlib.Core.Bool.{_&&_}
 use lib.Dec.{T}
-use lib.Ieee.{Float, nan, inf, fin, binary64, le, lt, eq, fits}
-use lib.Ieee.Scale.{finite}
+use lib.Ieee.{Float, binary64, le, fits}
 use Rattle.algebra.specs.Integer.{Z, nat, Within, _≼_}
 use Rattle.rounding.specs.Value.{mag, negative, val, Fin}
 use Rattle.rounding.specs.Scale.{pow2}
-use Rattle.rounding.proofs.Value.{fin-both}
 use Rattle.rounding.proofs.Order.{le-is}
 use Rattle.shapes.specs.Limits.{smallestRadius, largestRadius}
 use Rattle.shapes.specs.Lift.{lift}
@@ -18,42 +16,15 @@ use Rattle.scope.specs.Numbers.{nought, one}
 use Rattle.scope.specs.Limits.{within, radiusOk, factorOk}
 use Rattle.scope.specs.Promises.{units}
 use Rattle.laws.proofs.Cases.{and-iff, is-true}
+use Rattle.laws.proofs.Between.{Between, within-between, radius-between}
 use Rattle.promises.proofs.numbers.Bounded.{Bounded}
 
--- between two finite numbers lies no infinity and no NaN
-between-finite : (lo hi x : Float) → Fin binary64 lo → Fin binary64 hi → T (le lo x) → T (le x hi) → T (finite x)
-unfolding Fin le lt eq
-between-finite nan hi x p q h k = absurd p
-between-finite (inf s) hi x p q h k = absurd p
-between-finite (fin s m e) nan x p q h k = absurd q
-between-finite (fin s m e) (inf t) x p q h k = absurd q
-between-finite (fin s m e) (fin t n d) nan p q h k = absurd h
-between-finite (fin s m e) (fin t n d) (inf true) p q h k = absurd h
-between-finite (fin s m e) (fin t n d) (inf false) p q h k = absurd k
-between-finite (fin s m e) (fin t n d) (fin u c g) p q h k = tt
-
-pub record Between (lo hi : Z) (x : Float) : Type 0 where
-  pub fin : Fin binary64 x
-  pub from : lo ≼ units x
-  pub to : units x ≼ hi
-
-pub within-between : (lo hi x : Float) → Fin binary64 lo → Fin binary64 hi → T (fits binary64 x) → T (within lo hi x) → Between (units lo) (units hi) x
-unfolding within
-within-between lo hi x p q f t =
-    let h = and-iff (le lo x) (le x hi) .0 t in
-    let F = fin-both binary64 x (between-finite lo hi x p q (h .0) (h .1)) f in
-    record { fin = F; from = le-is binary64 lo x p F .0 (h .0); to = le-is binary64 x hi F q .0 (h .1) }
-
--- and what lies between 0 and the upper end passes
+-- what lies between 0 and the upper end passes the range's test
 pub passes-from-nought : (hi x : Float) → Fin binary64 hi → Fin binary64 x → nat 0 ≼ units x → units x ≼ units hi → T (within nought hi x)
 unfolding within Fin fits val mag negative
 passes-from-nought hi x q p low high = and-iff (le nought x) (le x hi) .1 (le-is binary64 nought x tt p .1 low, le-is binary64 x hi p q .1 high)
 
 -- ---- radii: 2^-20 to 2^20
-pub radius-between : (r : Float) → T (fits binary64 r) → T (radiusOk r) → Between (nat (pow2 40)) (nat (pow2 80)) r
-unfolding radiusOk smallestRadius largestRadius Fin fits val mag negative pow2
-radius-between r f t = within-between smallestRadius largestRadius r tt tt f t
-
 pub radius-bounded : (r : Float) → T (fits binary64 r) → T (radiusOk r) → Bounded (pow2 80) r
 radius-bounded r f t = let b = radius-between r f t in record { fin = b .fin; within = small (units r) (pow2 40) (pow2 80) (b .from) (b .to) }
   where

@@ -7,7 +7,7 @@ use native.Mathlib.Nat.{le-of-mul-le-mul-right}
 use native.Mathlib.Omega.{arith}
 use lib.Pow.{pow-pos}
 use lib.Ieee.{Float, nan, inf, fin, Format, binary64, prec, fits}
-use Rattle.algebra.specs.Integer.{Z, _⊕_, _⊗_, _≈_, _≼_, nat, Within, Near}
+use Rattle.algebra.specs.Integer.{Z, _⊕_, _⊗_, _≈_, nat, Within, Near}
 use Rattle.algebra.proofs.Size.{size, size-cases}
 use Rattle.rounding.specs.Value.{mag, signed, negative, val, Fin}
 use Rattle.rounding.specs.Scale.{pow2}
@@ -39,15 +39,6 @@ mag-square x = go (negative x) (mag binary64 x)
     go : (s : Bool) (a : ℕ) → signed s a ⊗ signed s a ≈ nat (a * a)
     go false a = omega arith
     go true a = omega arith
-
--- a value above 0 has the sign false
-pub above-zero-sign : (x : Float) → nat 1 ≼ val binary64 x → negative x ≡ false
-unfolding val
-above-zero-sign x h = go (negative x) (mag binary64 x) h
-  where
-    go : (s : Bool) (a : ℕ) → nat 1 ≼ signed s a → s ≡ false
-    go false a h = refl
-    go true a h = absurd (omega arith)
 
 -- ---- a rounded result near v / d, where v is n or -n
 pub close-sizes : {z : Float} {v : Z} {d e b : ℕ} (t : Bool) (n : ℕ) → v ≈ signed t n → Close z v d e b → (mag binary64 z * d ≤ n + e * d) × (n ≤ mag binary64 z * d + e * d)

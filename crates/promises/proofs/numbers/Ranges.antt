@@ -3,20 +3,19 @@ use mathlib.Core.Path.{_≡_}
 use mathlib.Core.Bool.{false}
 use Prim.Native.Nat.{_≤_, _<_}
 use native.Mathlib.Omega.{arith}
-use lib.Dec.{T, lit≤}
+use lib.Dec.{T}
 use lib.IntN.{pos}
 use lib.Ieee.{Float, fin, binary64, neg, fits}
 use Rattle.algebra.specs.Integer.{Z, nat, opp, Within}
 use Rattle.rounding.specs.Value.{mag, negative, val, Fin}
 use Rattle.rounding.specs.Scale.{pow2}
-use Rattle.rounding.proofs.Value.{val-mag}
 use Rattle.rounding.proofs.Double.{pow2-le}
 use Rattle.shapes.specs.declared.circle.Circle.{Circle}
 use Rattle.shapes.specs.Lift.{lift}
 use Rattle.scope.specs.Limits.{within, coordinateOk, radiusOk}
 use Rattle.scope.specs.Promises.{units}
-use Rattle.promises.proofs.numbers.InRange.{Between, within-between, radius-between, radius-lifted}
-use Rattle.promises.proofs.numbers.Magnitude.{above-zero-sign}
+use Rattle.laws.proofs.Between.{Between, within-between, smallest-positive, radius-size}
+use Rattle.promises.proofs.numbers.InRange.{radius-lifted}
 use Rattle.promises.proofs.gauge.Carried.{StandsWithin, centreBound}
 
 -- ---- coordinates
@@ -43,18 +42,10 @@ pub record Radius (r : Float) : Type 0 where
   pub small : mag binary64 r ≤ pow2 80
   pub lifted : lift r ≡ r
 
-smallest-positive : 1 ≤ pow2 40
-unfolding pow2
-smallest-positive = lit≤ tt
-
 pub radius-accepted : (r : Float) → T (fits binary64 r) → T (radiusOk r) → Radius r
 radius-accepted r t h =
-    let b = radius-between r t h in
-    let lo = b .from in
-    let s = above-zero-sign r (omega (arith, smallest-positive)) in
-    let lower = rw (val-mag binary64 r s) at lo in
-    let upper = rw (val-mag binary64 r s) at (b .to) in
-    record { fin = b .fin; sign = s; positive = omega (arith, smallest-positive); small = omega arith; lifted = radius-lifted r h }
+    let b = radius-size r t h in
+    record { fin = b .fin; sign = b .sign; positive = omega (arith, smallest-positive, b .from); small = b .to; lifted = radius-lifted r h }
 
 -- ---- an accepted circle
 pub record Sound (c : Circle) : Type 0 where

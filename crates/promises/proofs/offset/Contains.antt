@@ -13,6 +13,7 @@ use Rattle.rounding.specs.Value.{mag, negative, Fin}
 use Rattle.rounding.specs.Scale.{pow2}
 use Rattle.rounding.proofs.Value.{fin-both, fin-finite, val-mag}
 use Rattle.rounding.proofs.Double.{pow2-scale}
+use Rattle.rounding.proofs.Finite.{finite-below}
 use Rattle.rounding.proofs.Add.{add-relative, add-sign}
 use Rattle.rounding.proofs.Order.{le-is}
 use Rattle.shapes.specs.declared.circle.Circle.{Circle}
@@ -36,15 +37,6 @@ first-part-finite f (inf false) (fin u m e) nan s p q t = absurd q
 first-part-finite f (inf false) (fin u m e) (inf w) s p q t = absurd q
 first-part-finite f (inf false) (fin u m e) (fin w n d) s p q t = absurd t
 first-part-finite f (fin u m e) r R s p q t = tt
-
-finite-below : (z R : Float) → negative z ≡ false → T (finite R) → T (le z R) → T (finite z)
-unfolding le lt eq negative
-finite-below nan R s q t = absurd t
-finite-below (inf true) R s q t = absurd (true≢false s)
-finite-below (inf false) nan s q t = absurd q
-finite-below (inf false) (inf v) s q t = absurd q
-finite-below (inf false) (fin v n d) s q t = absurd t
-finite-below (fin v n d) R s q t = tt
 
 -- ---- the sum's rounding, for an R up to 2^20
 sum-wide : pow2 80 + 2 ^ prec binary64 ≤ (2 ^ 53 - 1) * pow2 28

@@ -14,7 +14,7 @@ use Rattle.algebra.proofs.Table.{every, at}
 use Rattle.rounding.specs.Value.{mag, negative, val, Fin}
 use Rattle.rounding.specs.Scale.{pow2}
 use Rattle.rounding.specs.Root.{root}
-use Rattle.rounding.proofs.Value.{Held, held, fin-finite, val-mag}
+use Rattle.rounding.proofs.Value.{Held, held, fin-finite, val-mag, above-zero-sign}
 use Rattle.rounding.proofs.Rounded.{RoundOf}
 use Rattle.rounding.proofs.Multiply.{mul-is}
 use Rattle.rounding.proofs.root.Operation.{root-finite, root-nearest}
@@ -24,9 +24,8 @@ use Rattle.scope.specs.Limits.{within, proportionOk}
 use Rattle.scope.specs.Packing.{columns}
 use Rattle.scope.specs.Computing.{computing}
 use Rattle.laws.proofs.Cases.{and-iff}
+use Rattle.laws.proofs.Between.{Between, within-between}
 use Rattle.promises.proofs.numbers.Bounded.{within-mag, pow2-positive}
-use Rattle.promises.proofs.numbers.InRange.{Between, within-between}
-use Rattle.promises.proofs.numbers.Magnitude.{above-zero-sign}
 use Rattle.promises.proofs.numbers.NeverPast.{rounded-not-above, rounded-not-below, root-not-above, root-not-below}
 use Rattle.promises.proofs.packing.Sizes.{product-bounded, product-sign}
 use Rattle.promises.proofs.packing.Raised.{raised-at-most, raised-above, IsWhole, whole-is}
@@ -94,7 +93,7 @@ pub proportion-is : (p : Float) → T (fits binary64 p) → T (proportionOk p) �
 proportion-is p f t =
     let b = proportion-between p f t in
     let lo = b .from in
-    let s = above-zero-sign p (omega (arith, pow2-positive 58)) in
+    let s = above-zero-sign binary64 p (omega (arith, pow2-positive 58)) in
     let lower = rw (val-mag binary64 p s) at lo in
     let upper = rw (val-mag binary64 p s) at (b .to) in
     record { fin = b .fin; sign = s; from = omega arith; to = omega arith }

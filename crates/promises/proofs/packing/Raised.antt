@@ -16,7 +16,7 @@ use lib.Ieee.Scale.{finite}
 use Rattle.algebra.specs.Integer.{Z, nat, Within, _≼_, _≺_}
 use Rattle.rounding.specs.Value.{mag, negative, Fin}
 use Rattle.rounding.specs.Scale.{pow2}
-use Rattle.rounding.proofs.Value.{value-of, val-mag, fits-small}
+use Rattle.rounding.proofs.Value.{value-of, val-mag, fits-small, above-zero-sign}
 use Rattle.rounding.proofs.Order.{lt-is}
 use Rattle.rounding.proofs.Rounded.{RoundOf, round-exact, round-sign}
 use Rattle.rounding.proofs.Double.{one}
@@ -26,7 +26,7 @@ use Rattle.scope.specs.Promises.{units}
 use Rattle.laws.proofs.Cases.{or-iff}
 use Rattle.promises.proofs.numbers.Bounded.{Upto, not-below}
 use Rattle.promises.proofs.numbers.InRange.{passes-from-nought}
-use Rattle.promises.proofs.numbers.Magnitude.{above-zero-sign, mag-le}
+use Rattle.promises.proofs.numbers.Magnitude.{mag-le}
 
 -- ---- raised to a whole number: a / d
 ceiling-up-to : (a d c : ℕ) → 0 < d → a ≤ c * d → (a + (d - 1)) / d ≤ c
@@ -95,7 +95,7 @@ module _ (x : Float) (p : Fin binary64 x) (c : ℕ) (few : c ≤ 2 ^ 53) where
   below-raised t =
       let w = whole-is c few in
       let h = rw (val-mag binary64 (whole c) (w .sign), w .size) at (lt-is binary64 (whole c) x (w .fin) p .0 t) in
-      let s = above-zero-sign x (omega arith) in
+      let s = above-zero-sign binary64 x (omega arith) in
       raised-above x p s c (let k = rw (val-mag binary64 x s) at h in omega arith)
 
   pub raised-not-above : nat 0 ≼ units x → ¬ T (whole c <ᶠ x) → raised x ≤ c

@@ -5,10 +5,12 @@ use mathlib.Core.Bool.{false}
 use Prim.Native.Nat.{ℕ, suc, _+_, _-_, _*_, _%_, _^_, _≤_, _<_}
 use native.Mathlib.Nat.{mul-le-mul-right, mul-lt-mul-of-pos-right, mul-pos, le-of-mul-le-mul-right, le-of-eq, le-antisymm, pow-succ'}
 use native.Mathlib.Omega.{arith}
+use native.Mathlib.Decide.{decLt}
 use lib.Dec.{T}
 use lib.Pow.{pow-pos}
 use lib.Ieee.{Float, inf, Format, prec, emax, low}
 use lib.Ieee.Scale.{finite}
+use Rattle.algebra.proofs.Squares.{square-le}
 use Rattle.rounding.specs.Root.{nearestRoot}
 use Rattle.rounding.specs.NearestRoot.{squareOf, squareOfRoot}
 use Rattle.rounding.specs.Value.{mag, negative, Fin, lastDigit}
@@ -66,6 +68,20 @@ units-root f n t =
       even = λ (w : Float) (p : Fin f w) (apart : mag f z ≡ mag f w → ⊥) (e : (mag f z + mag f w) * (mag f z + mag f w) ≡ 4 * n).
           r .even w p apart (square-is f n (mag f z + mag f w) ∙ ap (λ (x : ℕ). x * unitSquare f) e ∙ sym (root-square-is f n (mag f z + mag f w)));
     }
+
+-- so z never goes past a value w of the format
+module _ (f : Format) (n : ℕ) (z : Float) (r : IsUnitsRoot f n z) (w : Float) (p : Fin f w) where
+  pub units-root-not-above : n ≤ mag f w * mag f w → mag f z ≤ mag f w
+  units-root-not-above l = elim (decLt (mag f w) (mag f z)) [ yes g ↦ absurd (past (mag f z) (mag f w) g l (r .below w p g)) | no g ↦ omega arith ]
+    where
+      past : (z w : ℕ) → w < z → n ≤ w * w → (z + w) * (z + w) ≤ 4 * n → ⊥
+      past z w g l h = let k : z + w ≤ 2 * w = square-le (z + w) (2 * w) (omega arith) in omega arith
+
+  pub units-root-not-below : mag f w * mag f w ≤ n → mag f w ≤ mag f z
+  units-root-not-below l = elim (decLt (mag f z) (mag f w)) [ yes g ↦ absurd (past (mag f z) (mag f w) g l (r .above w p g)) | no g ↦ omega arith ]
+    where
+      past : (z w : ℕ) → z < w → w * w ≤ n → 4 * n ≤ (z + w) * (z + w) → ⊥
+      past z w g l h = let k : 2 * w ≤ z + w = square-le (2 * w) (z + w) (omega arith) in omega arith
 
 -- ---- z is within 2 ^ j units of the root of n units, which is half of a last place at that exponent
 pub record RootIs (f : Format) (n : ℕ) (z : Float) (j : ℕ) : Type 0 where

@@ -10,10 +10,10 @@ use Rattle.intake.proofs.causes.number_of.Statement.{statement}
 use Rattle.intake.proofs.causes.number_of.Tie as tie
 
 abbrev Inv-loop : tie.InvT-loop
-Inv-loop word order i₀ i = (i ≤ 17) × Small order × (first (bit word) (drop i causes) ≡ first (bit word) causes)
+Inv-loop word order i₀ i = (i ≤ 19) × Small order × (first (bit word) (drop i causes) ≡ first (bit word) causes)
 
 abbrev μ-loop : tie.MeasureT-loop
-μ-loop word order i₀ i = 17 - i
+μ-loop word order i₀ i = 19 - i
 
 loop-holds : tie.Need-loop-holds Inv-loop μ-loop
 loop-holds c = (omega arith, all-small _ tt, refl)
@@ -48,7 +48,7 @@ returns-2 : tie.Need-returns-2 Inv-loop μ-loop
 unfolding causes first
 returns-2 c =
     let l = c .before .loop in
-    let all : l .i ≡ 17 = omega arith in
+    let all : l .i ≡ 19 = omega arith in
     rw all at (l .inv .2)
 
 pub number-of-spec : {M : Type 1} → statement M

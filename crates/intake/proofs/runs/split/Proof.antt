@@ -61,7 +61,7 @@ use Rattle.intake.proofs.Lending.{refTo}
 use Rattle.intake.proofs.Turns.{Upto, Nearer, nearer-ends}
 use Rattle.intake.proofs.NumberArrays.{Number, float64, uint16, F64s, U16s, typeOf, IsNumber, numbersTy, opens-array, closes-array, element, puts-number}
 use Rattle.intake.proofs.TakenCalls.{TakenContract, RefusalContract, asks-taken, asks-refusal}
-use Rattle.intake.proofs.Splitting.{splitOf, taken-few, theX, theY, theRadius, theInk, after, after-long, after-within, after-next, after-all}
+use Rattle.intake.proofs.Splitting.{splitOf, circlesCap, taken-few, theX, theY, theRadius, theInk, after, after-long, after-within, after-next, after-all}
 use Rattle.intake.proofs.runs.taken.Symbol as taken-def
 use Rattle.intake.proofs.runs.taken.Symbol.{name as #taken}
 use Rattle.intake.proofs.runs.taken.Met as taken-thm
@@ -178,16 +178,16 @@ module _ {M : Type 1} (𝓤 : URA M) (H : Heap 𝓤) (A : Atoms 𝓤) (W : Given
 
     -- the arrays after i turns
     abbrev now₁ : ℕ → List Float
-    now₁ = after theX cs xs e₁
+    now₁ = after theX cs xs
 
     abbrev now₂ : ℕ → List Float
-    now₂ = after theY cs ys e₂
+    now₂ = after theY cs ys
 
     abbrev now₃ : ℕ → List Float
-    now₃ = after theRadius cs rs e₃
+    now₃ = after theRadius cs rs
 
     abbrev now₄ : ℕ → List ℕ
-    now₄ = after theInk cs is e₄
+    now₄ = after theInk cs is
 
     abbrev En : Env 𝓤 H
     En = (tyInt w8, l₀) ∷ (slice₀, l₁) ∷ (array 1 float64, l₂) ∷ (array 2 float64, l₃) ∷ (array 3 float64, l₄) ∷ (array 4 uint16, l₅) ∷ (tyInt w64, l₆) ∷ (tyInt w64, l₇) ∷ (T′.mir, l₈) ∷ (tyInt w64, l₉) ∷ (tyBool, l₁₀) ∷ (tyInt w64, l₁₁) ∷ (tyPtr, l₁₂) ∷ (T′.mir, l₁₃) ∷ (tyPtr, l₁₄) ∷ (tyPtr, l₁₅) ∷ (tyPtr, l₁₆) ∷ (tyPtr, l₁₇) ∷ (tyPtr, l₁₈) ∷ (tyPtr, l₁₉) ∷ (tyPtr, l₂₀) ∷ (tyPtr, l₂₁) ∷ []
@@ -221,25 +221,25 @@ module _ {M : Type 1} (𝓤 : URA M) (H : Heap 𝓤) (A : Atoms 𝓤) (W : Given
         assigns ! (bin ! (load ! (from ! (stop !)) (look ! 49 refl)) (lit ! tt) (record { fits = eights })) (from ! (stop !)) (store ! 41 refl (tt, record { fits = eights })) $
         assigns ! (addr ! (from ! (hop ! (look ! 59 refl) (stop !)))) (from ! (stop !)) (init ! 35 refl (tt, tt)) $
         assigns ! (element ! 8 (i .0) (load ! (from ! (stop !)) (look ! 35 refl)) (load ! (from ! (stop !)) (look ! 41 refl))) (from ! (stop !)) (init ! 33 refl (tt, tt)) $ move ! (1 ∷ []) $
-        puts-number ! float64 (now₁ (i .0)) (i .0) (theX .of (elem (i .0))) b₁ o₁ (after-within theX cs xs e₁ (i .0) l) (after-next theX cs xs e₁ (i .0) l) (parts (elem (i .0)) g .0)
+        puts-number ! float64 (now₁ (i .0)) (i .0) (theX .of (elem (i .0))) b₁ o₁ (after-within circlesCap theX cs xs e₁ (i .0) l) (after-next circlesCap theX cs xs e₁ (i .0) l) (parts (elem (i .0)) g .0)
         (λ _ _ _. of-opd ! (load ! (from ! (fld ! refl (fld ! refl (stop !)))) (look-in ! 49 (sub ! 0 refl (sub ! 0 refl (whole !)))))) (λ _ _ _. from ! (hop ! (look ! 35 refl) (stop !))) $
         -- ys
         assigns ! (bin ! (load ! (from ! (stop !)) (look ! 49 refl)) (lit ! tt) (record { fits = eights })) (from ! (stop !)) (store ! 41 refl (tt, record { fits = eights })) $
         assigns ! (addr ! (from ! (hop ! (look ! 57 refl) (stop !)))) (from ! (stop !)) (init ! 31 refl (tt, tt)) $
         assigns ! (element ! 8 (i .0) (load ! (from ! (stop !)) (look ! 31 refl)) (load ! (from ! (stop !)) (look ! 41 refl))) (from ! (stop !)) (init ! 29 refl (tt, tt)) $ move ! (2 ∷ []) $
-        puts-number ! float64 (now₂ (i .0)) (i .0) (theY .of (elem (i .0))) b₂ o₂ (after-within theY cs ys e₂ (i .0) l) (after-next theY cs ys e₂ (i .0) l) (parts (elem (i .0)) g .1)
+        puts-number ! float64 (now₂ (i .0)) (i .0) (theY .of (elem (i .0))) b₂ o₂ (after-within circlesCap theY cs ys e₂ (i .0) l) (after-next circlesCap theY cs ys e₂ (i .0) l) (parts (elem (i .0)) g .1)
         (λ _ _ _. of-opd ! (load ! (from ! (fld ! refl (fld ! refl (stop !)))) (look-in ! 49 (sub ! 1 refl (sub ! 0 refl (whole !)))))) (λ _ _ _. from ! (hop ! (look ! 31 refl) (stop !))) $
         -- rs
         assigns ! (bin ! (load ! (from ! (stop !)) (look ! 49 refl)) (lit ! tt) (record { fits = eights })) (from ! (stop !)) (store ! 41 refl (tt, record { fits = eights })) $
         assigns ! (addr ! (from ! (hop ! (look ! 55 refl) (stop !)))) (from ! (stop !)) (init ! 27 refl (tt, tt)) $
         assigns ! (element ! 8 (i .0) (load ! (from ! (stop !)) (look ! 27 refl)) (load ! (from ! (stop !)) (look ! 41 refl))) (from ! (stop !)) (init ! 25 refl (tt, tt)) $ move ! (3 ∷ []) $
-        puts-number ! float64 (now₃ (i .0)) (i .0) (theRadius .of (elem (i .0))) b₃ o₃ (after-within theRadius cs rs e₃ (i .0) l) (after-next theRadius cs rs e₃ (i .0) l) (parts (elem (i .0)) g .2)
+        puts-number ! float64 (now₃ (i .0)) (i .0) (theRadius .of (elem (i .0))) b₃ o₃ (after-within circlesCap theRadius cs rs e₃ (i .0) l) (after-next circlesCap theRadius cs rs e₃ (i .0) l) (parts (elem (i .0)) g .2)
         (λ _ _ _. of-opd ! (load ! (from ! (fld ! refl (stop !))) (look-in ! 49 (sub ! 1 refl (whole !))))) (λ _ _ _. from ! (hop ! (look ! 27 refl) (stop !))) $
         -- is
         assigns ! (bin ! (load ! (from ! (stop !)) (look ! 49 refl)) (lit ! tt) (record { fits = twos })) (from ! (stop !)) (store ! 41 refl (tt, record { fits = twos })) $
         assigns ! (addr ! (from ! (hop ! (look ! 53 refl) (stop !)))) (from ! (stop !)) (init ! 23 refl (tt, tt)) $
         assigns ! (element ! 2 (i .0) (load ! (from ! (stop !)) (look ! 23 refl)) (load ! (from ! (stop !)) (look ! 41 refl))) (from ! (stop !)) (init ! 21 refl (tt, tt)) $ move ! (4 ∷ []) $
-        puts-number ! uint16 (now₄ (i .0)) (i .0) (theInk .of (elem (i .0))) b₄ o₄ (after-within theInk cs is e₄ (i .0) l) (after-next theInk cs is e₄ (i .0) l) (parts (elem (i .0)) g .3)
+        puts-number ! uint16 (now₄ (i .0)) (i .0) (theInk .of (elem (i .0))) b₄ o₄ (after-within circlesCap theInk cs is e₄ (i .0) l) (after-next circlesCap theInk cs is e₄ (i .0) l) (parts (elem (i .0)) g .3)
         (λ _ _ _. of-opd ! (load ! (from ! (fld ! refl (stop !))) (look-in ! 49 (sub ! 2 refl (whole !))))) (λ _ _ _. from ! (hop ! (look ! 23 refl) (stop !))) $
         move ! (4 ∷ 3 ∷ 2 ∷ 1 ∷ 0 ∷ []) $ assigns-last ! (bin ! (load ! (from ! (stop !)) (look ! 49 refl)) (lit ! tt) (record { fits = next-fits })) (from ! (stop !)) (store ! 49 refl (tt, record { fits = next-fits })) $
         forget ! 47 refl $ forget ! 43 refl $ forget ! 41 refl $ forget ! 39 refl $ forget ! 37 refl $ forget ! 35 refl $ forget ! 33 refl $ forget ! 31 refl $ forget ! 29 refl $ forget ! 27 refl $ forget ! 25 refl $ forget ! 23 refl $ forget ! 21 refl $
@@ -249,7 +249,7 @@ module _ {M : Type 1} (𝓤 : URA M) (H : Heap 𝓤) (A : Atoms 𝓤) (W : Given
         typed {c} g = LL.lawful T.the-type T′.the-laws 𝓤 H A W .typed c _ g .0
 
         inside : i .0 < n
-        inside = omega (arith, l, taken-few n)
+        inside = omega (arith, l, taken-few circlesCap n)
 
         bytes : i .0 * 32 < 2 ^ 64
         bytes = omega (arith, g₀ .1, inside)
@@ -272,15 +272,15 @@ module _ {M : Type 1} (𝓤 : URA M) (H : Heap 𝓤) (A : Atoms 𝓤) (W : Given
         assigns ! (of-opd ! (load ! (from ! (fld ! refl (stop !))) (look-in ! 61 (sub ! 1 refl (whole !))))) (from ! (stop !)) (store ! 45 refl (tt, record { fits = g₀ .0 })) $
         asks-refusal ! (fmOf 𝓤 H (W .laws) 𝓣) at-mem run known-refusal n (g₀ .0) (λ p. and-then ! (load ! (from ! (stop !)) (look ! 46 refl)) (no-more !)) (λ small. land ! (from ! (stop !)) (init ! 63 refl (tt, record { fits = small })) $
         move ! (0 ∷ 5 ∷ []) $ shuts-slice ! tt T.the-row q′ cs b₀ o₀ $
-        move ! (1 ∷ 8 ∷ 9 ∷ 10 ∷ []) $ closes-array ! tt float64 (now₁ (i .0)) (after-long theX cs xs e₁ (i .0) (i .1)) b₁ o₁ $
-        move ! (4 ∷ 10 ∷ 11 ∷ 12 ∷ []) $ closes-array ! tt float64 (now₂ (i .0)) (after-long theY cs ys e₂ (i .0) (i .1)) b₂ o₂ $
-        move ! (7 ∷ 12 ∷ 13 ∷ 14 ∷ []) $ closes-array ! tt float64 (now₃ (i .0)) (after-long theRadius cs rs e₃ (i .0) (i .1)) b₃ o₃ $
-        move ! (10 ∷ 14 ∷ 15 ∷ 16 ∷ []) $ closes-array ! tt uint16 (now₄ (i .0)) (after-long theInk cs is e₄ (i .0) (i .1)) b₄ o₄ $
+        move ! (1 ∷ 8 ∷ 9 ∷ 10 ∷ []) $ closes-array ! tt float64 (now₁ (i .0)) (after-long circlesCap theX cs xs e₁ (i .0) (i .1)) b₁ o₁ $
+        move ! (4 ∷ 10 ∷ 11 ∷ 12 ∷ []) $ closes-array ! tt float64 (now₂ (i .0)) (after-long circlesCap theY cs ys e₂ (i .0) (i .1)) b₂ o₂ $
+        move ! (7 ∷ 12 ∷ 13 ∷ 14 ∷ []) $ closes-array ! tt float64 (now₃ (i .0)) (after-long circlesCap theRadius cs rs e₃ (i .0) (i .1)) b₃ o₃ $
+        move ! (10 ∷ 14 ∷ 15 ∷ 16 ∷ []) $ closes-array ! tt uint16 (now₄ (i .0)) (after-long circlesCap theInk cs is e₄ (i .0) (i .1)) b₄ o₄ $
         returns ! (look ! 58 refl) $ forget ! 58 refl $ forget ! 56 refl $ forget ! 54 refl $ forget ! 52 refl $ forget ! 50 refl $ forget ! 48 refl $ forget ! 46 refl $ forget ! 44 refl $ forget ! 40 refl $ forget ! 38 refl $
         move ! (58 ∷ 59 ∷ []) $ free1 ! $ move ! (56 ∷ 57 ∷ []) $ free1 ! $ move ! (54 ∷ 55 ∷ []) $ free1 ! $ move ! (52 ∷ 53 ∷ []) $ free1 ! $ move ! (50 ∷ 51 ∷ []) $ free1 ! $ move ! (48 ∷ 49 ∷ []) $ free1 ! $ move ! (46 ∷ 47 ∷ []) $ free1 ! $ move ! (44 ∷ 45 ∷ []) $ free1 ! $ move ! (42 ∷ 43 ∷ []) $ free1 ! $ move ! (40 ∷ 41 ∷ []) $ free1 ! $ move ! (38 ∷ 39 ∷ []) $ free1 ! $ move ! (36 ∷ 37 ∷ []) $ free1 ! $ move ! (34 ∷ 35 ∷ []) $ free1 ! $ move ! (32 ∷ 33 ∷ []) $ free1 ! $ move ! (30 ∷ 31 ∷ []) $ free1 ! $ move ! (28 ∷ 29 ∷ []) $ free1 ! $ move ! (26 ∷ 27 ∷ []) $ free1 ! $ move ! (24 ∷ 25 ∷ []) $ free1 ! $ move ! (22 ∷ 23 ∷ []) $ free1 ! $ move ! (20 ∷ 21 ∷ []) $ free1 ! $ move ! (18 ∷ 19 ∷ []) $ free1 ! $ move ! (16 ∷ 17 ∷ []) $ free1 ! $ free0 ! $
         move ! (14 ∷ 13 ∷ []) $ fjoin ! $ move ! (14 ∷ 0 ∷ []) $ fjoin ! $ keep ! (10 ∷ 11 ∷ 7 ∷ 8 ∷ 4 ∷ 5 ∷ 1 ∷ 2 ∷ 0 ∷ 13 ∷ 12 ∷ 9 ∷ 6 ∷ 3 ∷ []) $
         by ! (exits (now₁ (i .0)) (now₂ (i .0)) (now₃ (i .0)) (now₄ (i .0)) small
-        (ap now₁ e ∙ after-all theX cs xs e₁) (ap now₂ e ∙ after-all theY cs ys e₂) (ap now₃ e ∙ after-all theRadius cs rs e₃) (ap now₄ e ∙ after-all theInk cs is e₄)))
+        (ap now₁ e ∙ after-all circlesCap theX cs xs e₁) (ap now₂ e ∙ after-all circlesCap theY cs ys e₂) (ap now₃ e ∙ after-all circlesCap theRadius cs rs e₃) (ap now₄ e ∙ after-all circlesCap theInk cs is e₄)))
 
     turns : (i : Upto end) → Sq W (At i) (runs C Λ En body.turn-1 (anyQ (Turned i)))
     turns i = ⊎-elim (ends i) (more i) (eq-or-lt-of-le (i .1))

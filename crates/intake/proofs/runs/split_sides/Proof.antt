@@ -58,7 +58,7 @@ use Rattle.intake.proofs.Lending.{refTo}
 use Rattle.intake.proofs.Turns.{Upto, Nearer, nearer-ends}
 use Rattle.intake.proofs.NumberArrays.{Number, float64, F64s, typeOf, IsNumber, numbersTy, opens-array, closes-array, element, puts-number}
 use Rattle.intake.proofs.TakenCalls.{TakenContract, RefusalContract, asks-taken, asks-refusal}
-use Rattle.intake.proofs.Splitting.{splitOf, taken-few, theWidth, theHeight, after, after-long, after-within, after-next, after-all}
+use Rattle.intake.proofs.Splitting.{splitOf, circlesCap, taken-few, theWidth, theHeight, after, after-long, after-within, after-next, after-all}
 use Rattle.intake.proofs.runs.taken.Symbol as taken-def
 use Rattle.intake.proofs.runs.taken.Symbol.{name as #taken}
 use Rattle.intake.proofs.runs.taken.Met as taken-thm
@@ -156,10 +156,10 @@ module _ {M : Type 1} (𝓤 : URA M) (H : Heap 𝓤) (A : Atoms 𝓤) (W : Given
 
     -- the arrays after i turns
     abbrev now₁ : ℕ → List Float
-    now₁ = after theWidth cs ws e₁
+    now₁ = after theWidth cs ws
 
     abbrev now₂ : ℕ → List Float
-    now₂ = after theHeight cs hs e₂
+    now₂ = after theHeight cs hs
 
     abbrev En : Env 𝓤 H
     En = (tyInt w8, l₀) ∷ (slice₀, l₁) ∷ (array 1 float64, l₂) ∷ (array 2 float64, l₃) ∷ (tyInt w64, l₄) ∷ (tyInt w64, l₅) ∷ (T′.mir, l₆) ∷ (tyInt w64, l₇) ∷ (tyBool, l₈) ∷ (tyInt w64, l₉) ∷ (tyPtr, l₁₀) ∷ (T′.mir, l₁₁) ∷ (tyPtr, l₁₂) ∷ (tyPtr, l₁₃) ∷ (tyPtr, l₁₄) ∷ (tyPtr, l₁₅) ∷ []
@@ -191,13 +191,13 @@ module _ {M : Type 1} (𝓤 : URA M) (H : Heap 𝓤) (A : Atoms 𝓤) (W : Given
         assigns ! (bin ! (load ! (from ! (stop !)) (look ! 33 refl)) (lit ! tt) (record { fits = eights })) (from ! (stop !)) (store ! 25 refl (tt, record { fits = eights })) $
         assigns ! (addr ! (from ! (hop ! (look ! 39 refl) (stop !)))) (from ! (stop !)) (init ! 19 refl (tt, tt)) $
         assigns ! (element ! 8 (i .0) (load ! (from ! (stop !)) (look ! 19 refl)) (load ! (from ! (stop !)) (look ! 25 refl))) (from ! (stop !)) (init ! 17 refl (tt, tt)) $ move ! (1 ∷ []) $
-        puts-number ! float64 (now₁ (i .0)) (i .0) (theWidth .of (elem (i .0))) b₁ o₁ (after-within theWidth cs ws e₁ (i .0) l) (after-next theWidth cs ws e₁ (i .0) l) (parts (elem (i .0)) g .0)
+        puts-number ! float64 (now₁ (i .0)) (i .0) (theWidth .of (elem (i .0))) b₁ o₁ (after-within circlesCap theWidth cs ws e₁ (i .0) l) (after-next circlesCap theWidth cs ws e₁ (i .0) l) (parts (elem (i .0)) g .0)
         (λ _ _ _. of-opd ! (load ! (from ! (fld ! refl (stop !))) (look-in ! 33 (sub ! 1 refl (whole !))))) (λ _ _ _. from ! (hop ! (look ! 19 refl) (stop !))) $
         -- hs
         assigns ! (bin ! (load ! (from ! (stop !)) (look ! 33 refl)) (lit ! tt) (record { fits = eights })) (from ! (stop !)) (store ! 25 refl (tt, record { fits = eights })) $
         assigns ! (addr ! (from ! (hop ! (look ! 37 refl) (stop !)))) (from ! (stop !)) (init ! 15 refl (tt, tt)) $
         assigns ! (element ! 8 (i .0) (load ! (from ! (stop !)) (look ! 15 refl)) (load ! (from ! (stop !)) (look ! 25 refl))) (from ! (stop !)) (init ! 13 refl (tt, tt)) $ move ! (2 ∷ []) $
-        puts-number ! float64 (now₂ (i .0)) (i .0) (theHeight .of (elem (i .0))) b₂ o₂ (after-within theHeight cs hs e₂ (i .0) l) (after-next theHeight cs hs e₂ (i .0) l) (parts (elem (i .0)) g .1)
+        puts-number ! float64 (now₂ (i .0)) (i .0) (theHeight .of (elem (i .0))) b₂ o₂ (after-within circlesCap theHeight cs hs e₂ (i .0) l) (after-next circlesCap theHeight cs hs e₂ (i .0) l) (parts (elem (i .0)) g .1)
         (λ _ _ _. of-opd ! (load ! (from ! (fld ! refl (stop !))) (look-in ! 33 (sub ! 2 refl (whole !))))) (λ _ _ _. from ! (hop ! (look ! 15 refl) (stop !))) $
         move ! (2 ∷ 1 ∷ 0 ∷ []) $ assigns-last ! (bin ! (load ! (from ! (stop !)) (look ! 33 refl)) (lit ! tt) (record { fits = next-fits })) (from ! (stop !)) (store ! 33 refl (tt, record { fits = next-fits })) $
         forget ! 31 refl $ forget ! 27 refl $ forget ! 25 refl $ forget ! 23 refl $ forget ! 21 refl $ forget ! 19 refl $ forget ! 17 refl $ forget ! 15 refl $ forget ! 13 refl $
@@ -207,7 +207,7 @@ module _ {M : Type 1} (𝓤 : URA M) (H : Heap 𝓤) (A : Atoms 𝓤) (W : Given
         typed {c} g = LL.lawful T.the-type T′.the-laws 𝓤 H A W .typed c _ g .0
 
         inside : i .0 < n
-        inside = omega (arith, l, taken-few n)
+        inside = omega (arith, l, taken-few circlesCap n)
 
         bytes : i .0 * 32 < 2 ^ 64
         bytes = omega (arith, g₀ .1, inside)
@@ -227,13 +227,13 @@ module _ {M : Type 1} (𝓤 : URA M) (H : Heap 𝓤) (A : Atoms 𝓤) (W : Given
         assigns ! (of-opd ! (load ! (from ! (fld ! refl (stop !))) (look-in ! 41 (sub ! 1 refl (whole !))))) (from ! (stop !)) (store ! 29 refl (tt, record { fits = g₀ .0 })) $
         asks-refusal ! (fmOf 𝓤 H (W .laws) 𝓣) at-mem run known-refusal n (g₀ .0) (λ p. and-then ! (load ! (from ! (stop !)) (look ! 30 refl)) (no-more !)) (λ small. land ! (from ! (stop !)) (init ! 43 refl (tt, record { fits = small })) $
         move ! (0 ∷ 3 ∷ []) $ shuts-slice ! tt T.the-row q′ cs b₀ o₀ $
-        move ! (1 ∷ 6 ∷ 7 ∷ 8 ∷ []) $ closes-array ! tt float64 (now₁ (i .0)) (after-long theWidth cs ws e₁ (i .0) (i .1)) b₁ o₁ $
-        move ! (4 ∷ 8 ∷ 9 ∷ 10 ∷ []) $ closes-array ! tt float64 (now₂ (i .0)) (after-long theHeight cs hs e₂ (i .0) (i .1)) b₂ o₂ $
+        move ! (1 ∷ 6 ∷ 7 ∷ 8 ∷ []) $ closes-array ! tt float64 (now₁ (i .0)) (after-long circlesCap theWidth cs ws e₁ (i .0) (i .1)) b₁ o₁ $
+        move ! (4 ∷ 8 ∷ 9 ∷ 10 ∷ []) $ closes-array ! tt float64 (now₂ (i .0)) (after-long circlesCap theHeight cs hs e₂ (i .0) (i .1)) b₂ o₂ $
         returns ! (look ! 40 refl) $ forget ! 40 refl $ forget ! 38 refl $ forget ! 36 refl $ forget ! 34 refl $ forget ! 32 refl $ forget ! 30 refl $ forget ! 26 refl $ forget ! 24 refl $
         move ! (40 ∷ 41 ∷ []) $ free1 ! $ move ! (38 ∷ 39 ∷ []) $ free1 ! $ move ! (36 ∷ 37 ∷ []) $ free1 ! $ move ! (34 ∷ 35 ∷ []) $ free1 ! $ move ! (32 ∷ 33 ∷ []) $ free1 ! $ move ! (30 ∷ 31 ∷ []) $ free1 ! $ move ! (28 ∷ 29 ∷ []) $ free1 ! $ move ! (26 ∷ 27 ∷ []) $ free1 ! $ move ! (24 ∷ 25 ∷ []) $ free1 ! $ move ! (22 ∷ 23 ∷ []) $ free1 ! $ move ! (20 ∷ 21 ∷ []) $ free1 ! $ move ! (18 ∷ 19 ∷ []) $ free1 ! $ move ! (16 ∷ 17 ∷ []) $ free1 ! $ move ! (14 ∷ 15 ∷ []) $ free1 ! $ move ! (12 ∷ 13 ∷ []) $ free1 ! $ move ! (10 ∷ 11 ∷ []) $ free1 ! $ free0 ! $
         move ! (8 ∷ 7 ∷ []) $ fjoin ! $ move ! (8 ∷ 0 ∷ []) $ fjoin ! $ keep ! (4 ∷ 5 ∷ 1 ∷ 2 ∷ 0 ∷ 7 ∷ 6 ∷ 3 ∷ []) $
         by ! (exits (now₁ (i .0)) (now₂ (i .0)) small
-        (ap now₁ e ∙ after-all theWidth cs ws e₁) (ap now₂ e ∙ after-all theHeight cs hs e₂)))
+        (ap now₁ e ∙ after-all circlesCap theWidth cs ws e₁) (ap now₂ e ∙ after-all circlesCap theHeight cs hs e₂)))
 
     turns : (i : Upto end) → Sq W (At i) (runs C Λ En body.turn-1 (anyQ (Turned i)))
     turns i = ⊎-elim (ends i) (more i) (eq-or-lt-of-le (i .1))
