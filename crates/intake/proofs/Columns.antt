@@ -24,12 +24,13 @@ use Rattle.scope.specs.Packing.{rectangle}
 use Rattle.scope.specs.Offset.{translated}
 use Rattle.scope.specs.Centring.{allTranslated}
 use Rattle.laws.specs.Inks.{withInk, inked}
+use Rattle.laws.specs.Touch.{noPoint, pointIn}
 use Rattle.laws.proofs.Accepted.{ink-at}
 use Rattle.laws.proofs.Inks.{length-inked, inked-at, inks-inked}
 use Rattle.laws.proofs.Cases.{or-iff, same-test}
 use Rattle.laws.proofs.Runs.{length-tab, getD-tab, tab-equal, any-at}
 use Rattle.intake.specs.Limits.{maxCircles}
-use Rattle.intake.specs.Columns.{at, bareCircle, circlesOf, xsOf, ysOf, radiiOf, widthsOf, heightsOf, noPoint, point, acrossOf, upOf, pointsOf, each, members, Lifted}
+use Rattle.intake.specs.Columns.{at, bareCircle, circlesOf, xsOf, ysOf, radiiOf, widthsOf, heightsOf, acrossOf, upOf, pointsOf, each, members, Lifted}
 use Rattle.intake.specs.CauseWords.{bareFront, front}
 use Rattle.intake.proofs.InPlace.{so-far, rewritten, all-rewritten}
 
@@ -113,19 +114,19 @@ height-at rects i h = getD-tab (length rects) (λ k. rectangle rects k .height) 
 -- ---- the lists of a run of points
 pub length-across : (ps : List Point) → length (acrossOf ps) ≡ length ps
 unfolding acrossOf
-length-across ps = length-tab (length ps) (λ i. point ps i .x)
+length-across ps = length-tab (length ps) (λ i. pointIn ps i .x)
 
 pub length-up : (ps : List Point) → length (upOf ps) ≡ length ps
 unfolding upOf
-length-up ps = length-tab (length ps) (λ i. point ps i .y)
+length-up ps = length-tab (length ps) (λ i. pointIn ps i .y)
 
-pub across-at : (ps : List Point) (i : ℕ) → i < length ps → at (acrossOf ps) i ≡ point ps i .x
+pub across-at : (ps : List Point) (i : ℕ) → i < length ps → at (acrossOf ps) i ≡ pointIn ps i .x
 unfolding acrossOf
-across-at ps i h = getD-tab (length ps) (λ k. point ps k .x) i nan h
+across-at ps i h = getD-tab (length ps) (λ k. pointIn ps k .x) i nan h
 
-pub up-at : (ps : List Point) (i : ℕ) → i < length ps → at (upOf ps) i ≡ point ps i .y
+pub up-at : (ps : List Point) (i : ℕ) → i < length ps → at (upOf ps) i ≡ pointIn ps i .y
 unfolding upOf
-up-at ps i h = getD-tab (length ps) (λ k. point ps k .y) i nan h
+up-at ps i h = getD-tab (length ps) (λ k. pointIn ps k .y) i nan h
 
 -- a run is shown by its two lists
 pub points-back : (ps : List Point) → pointsOf (acrossOf ps) (upOf ps) ≡ ps

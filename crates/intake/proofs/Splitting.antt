@@ -15,9 +15,10 @@ use Rattle.scope.specs.Limits.{circleCap, pointCap}
 use Rattle.scope.specs.Links.{nowhere}
 use Rattle.scope.specs.Packing.{noRectangle}
 use Rattle.scope.specs.Refusals.{tooMany, tooManyPoints, inks}
+use Rattle.laws.specs.Touch.{noPoint}
 use Rattle.intake.specs.Limits.{maxCircles, maxPoints}
 use Rattle.intake.specs.CauseWords.{bareFront, front}
-use Rattle.intake.specs.Columns.{xsOf, ysOf, radiiOf, widthsOf, heightsOf, noPoint, acrossOf, upOf, overwritten}
+use Rattle.intake.specs.Columns.{xsOf, ysOf, radiiOf, widthsOf, heightsOf, acrossOf, upOf, overwritten}
 use Rattle.intake.specs.Splits.{unless, loaded}
 use Rattle.intake.proofs.Columns.{length-xs, length-ys, length-radii, length-widths, length-heights, length-across, length-up, length-shown, x-at, y-at, radius-at, width-at, height-at, across-at, up-at, shown-back}
 use Rattle.laws.proofs.Accepted.{length-inks, ink-at}

@@ -25,7 +25,7 @@ use denote.RattleType.{RattleType}
 use denote.Steps.{only, owned, facts, heard, nothing}
 use denote.Triple.Statement.{Contract, Triple}
 use denote.Triple.Call.{calls-at}
-use denote.Triple.Clauses.{Lasts, lasts}
+use denote.Triple.Clauses.{lasts}
 use denote.Triple.Spec.{tripleOf}
 use Rattle.shapes.specs.Records.{pointAt}
 use Rattle.scope.specs.Refusals.{badPoint}

@@ -14,6 +14,7 @@ use Rattle.shapes.specs.Lift.{lift}
 use Rattle.scope.specs.Runs.{tab}
 use Rattle.scope.specs.Links.{circle}
 use Rattle.scope.specs.Packing.{rectangle}
+use Rattle.laws.specs.Touch.{pointIn}
 
 -- the number at a place of a list; past the end, a NaN
 abbrev pub at : List Float → ℕ → Float
@@ -44,19 +45,12 @@ widthsOf rects = tab (length rects) (λ i. rectangle rects i .width)
 unfoldable pub heightsOf : List Rectangle → List Float
 heightsOf rects = tab (length rects) (λ i. rectangle rects i .height)
 
--- the point at a place of a run; past the end, one that is nowhere
-abbrev pub noPoint : Point
-noPoint = pointAt nan nan
-
-abbrev pub point : List Point → ℕ → Point
-point ps i = getD ps i noPoint
-
 -- the lists of a run of points, and the points that lists show
 unfoldable pub acrossOf : List Point → List Float
-acrossOf ps = tab (length ps) (λ i. point ps i .x)
+acrossOf ps = tab (length ps) (λ i. pointIn ps i .x)
 
 unfoldable pub upOf : List Point → List Float
-upOf ps = tab (length ps) (λ i. point ps i .y)
+upOf ps = tab (length ps) (λ i. pointIn ps i .y)
 
 unfoldable pub pointsOf : List Float → List Float → List Point
 pointsOf xs ys = tab (length xs) (λ i. pointAt (at xs i) (at ys i))

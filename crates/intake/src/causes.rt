@@ -56,6 +56,9 @@ const ORDER: [u8; 19] = [
 pub fn number_of(word: u32) -> u8
     ensures { λ r. ⌜ r ≡ first (bit word) causes ⌝ }
 {
+    if word == 0 {
+        return 0;
+    }
     let order = ORDER;
     let mut i: usize = 0;
     while i < 19 {

@@ -3,25 +3,23 @@ use Prim.Native.Nat.{ℕ, zero, suc, _+_, _-_, _^_, _≤_, _<_}
 use native.Mathlib.Omega.{arith}
 use mathlib.Core.Path.{_≡_, refl, sym, ap, _∙_, subst}
 use mathlib.Core.Logic.{_↔_, Iff·trans, inl, inr, ⊎-elim}
-use mathlib.Core.Bool.{Bool, true, false}
+use mathlib.Core.Bool.{Bool, true}
 use mathlib.Core.List.{List, [], _∷_, _++_, map}
 use lib.Dec.{T, ltb, ltb→lt}
-use lib.Ieee.{nan}
 use lib.ListN.{length, getD, take, drop, take-append-drop, length-append, length-drop, length-map, List·getD-append}
 use lib.Seq.{getD-append-add, length-take-le}
 use borrow.Author.Tests.{lt-ltb}
 use Rattle.shapes.specs.declared.point.Point.{Point}
 use Rattle.shapes.specs.declared.circle.Circle.{Circle}
-use Rattle.shapes.specs.Records.{pointAt}
 use Rattle.scope.specs.Runs.{bit, any}
 use Rattle.scope.specs.Limits.{pointCap}
-use Rattle.scope.specs.Refusals.{Answer, refused, given, tooMany, badPoint, badCentre, badRadius, sameInk, tooManyPoints, tooFewAnswers, touchRefusal, circlePointRefusal, answer}
+use Rattle.scope.specs.Refusals.{Answer, refused, given, tooMany, badPoint, badCentre, badRadius, sameInk, tooManyPoints, tooFewAnswers, touchRefusal, circlePointRefusal}
 use Rattle.scope.specs.Distance.{containsPoint, containsPointAnswer}
 use Rattle.scope.specs.Links.{circle, nowhere}
 use Rattle.scope.specs.PackedRows.{packedRow}
-use Rattle.scope.specs.Touch.{Touched, touchMask, acceptedTouch, touched}
+use Rattle.scope.specs.Touch.{Touched, touchMask, touched}
 use Rattle.laws.specs.Inks.{inked}
-use Rattle.laws.specs.Touch.{pointIn, answerAt, Singly}
+use Rattle.laws.specs.Touch.{noPoint, pointIn, answerAt, Singly}
 use Rattle.laws.proofs.Cases.{or-iff, and-iff, not-ltb-iff, is-true}
 use Rattle.laws.proofs.Runs.{none-at, gather-equal}
 use Rattle.laws.proofs.Inks.{length-inked, inked-at}
@@ -117,7 +115,7 @@ module _ (cs : List Circle) (ps : List Point) (out : List ℕ) (z : touched cs p
   pair-accepted : (i j : ℕ) → i < length ps → j < length cs → circlePointRefusal (circle cs j) (pointIn ps i) ≡ 0
   pair-accepted i j hi hj =
       circle-point-reads (circle cs j) (pointIn ps i) .accepted .1 (
-        λ t. ⊎-elim (none-at badCentre cs nowhere .0 (none .1) j hj) (none-at badPoint ps (pointAt nan nan) .0 (none .2) i hi) (or-iff (badCentre (circle cs j)) (badPoint (pointIn ps i)) .0 t),
+        λ t. ⊎-elim (none-at badCentre cs nowhere .0 (none .1) j hj) (none-at badPoint ps noPoint .0 (none .2) i hi) (or-iff (badCentre (circle cs j)) (badPoint (pointIn ps i)) .0 t),
         (none-at badRadius cs nowhere .0 (none .3) j hj, tt),
       )
 
@@ -131,13 +129,13 @@ module _ (cs : List Circle) (ps : List Point) (out : List ℕ) (z : touched cs p
       touch-reads cs (pointIn ps i ∷ []) 1 1 .accepted .1 (
         none .0,
         (
-          λ t. ⊎-elim (none .1) (none-at badPoint (pointIn ps i ∷ []) (pointAt nan nan) .1 (good i h)) (or-iff (any badCentre cs) (any badPoint (pointIn ps i ∷ [])) .0 t),
+          λ t. ⊎-elim (none .1) (none-at badPoint (pointIn ps i ∷ []) noPoint .1 (good i h)) (or-iff (any badCentre cs) (any badPoint (pointIn ps i ∷ [])) .0 t),
           (none .3, (none .4, (not-too-many-points-iff 1 .1 one-fits, (not-too-few-answers-iff 1 1 .1 (omega arith), tt)))),
         ),
       )
     where
-      good : (i : ℕ) → i < length ps → (k : ℕ) → k < 1 → ¬ T (badPoint (getD (pointIn ps i ∷ []) k (pointAt nan nan)))
-      good i h zero l = none-at badPoint ps (pointAt nan nan) .0 (none .2) i h
+      good : (i : ℕ) → i < length ps → (k : ℕ) → k < 1 → ¬ T (badPoint (getD (pointIn ps i ∷ []) k noPoint))
+      good i h zero l = none-at badPoint ps noPoint .0 (none .2) i h
       good i h (suc k) l = absurd (omega arith)
 
   pub batch-as-singly : Singly cs ps out

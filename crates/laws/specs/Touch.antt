@@ -17,8 +17,11 @@ use Rattle.scope.specs.Links.{circle}
 use Rattle.scope.specs.Touch.{touched}
 
 -- the point at a place; past the end, one that is nowhere
+abbrev pub noPoint : Point
+noPoint = pointAt nan nan
+
 abbrev pub pointIn : List Point → ℕ → Point
-pointIn ps i = getD ps i (pointAt nan nan)
+pointIn ps i = getD ps i noPoint
 
 -- the answer at a place of a list of answers
 abbrev pub answerAt : List ℕ → ℕ → ℕ

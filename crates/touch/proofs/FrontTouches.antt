@@ -1,6 +1,5 @@
 -- A batch over numbers in the front of arrays: the number that its words of causes give, what is known where that is 0, and what is answered.
 use Prim.Native.Nat.{ℕ, zero, suc, _≤_}
-use native.Mathlib.Omega.{arith}
 use mathlib.Core.Path.{_≡_, refl, sym, ap, _∙_}
 use mathlib.Core.Logic.{_≢_}
 use mathlib.Core.Bool.{Bool, _||_, or-false}

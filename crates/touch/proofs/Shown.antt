@@ -1,17 +1,15 @@
 -- A batch over arrays that circles and points were split into is the batch over the circles and the points: for as many as counts say, and for runs.
-use Prim.Native.Nat.{ℕ, zero, suc, _≤_}
-use mathlib.Core.Path.{_≡_, refl, sym, ap, _∙_}
+use Prim.Native.Nat.{ℕ, zero, suc}
+use mathlib.Core.Path.{_≡_, refl, sym, _∙_}
 use mathlib.Core.Bool.{Bool, true, false}
 use mathlib.Core.List.{List}
-use borrow.Author.Tests.{ltb-false}
 use lib.ListN.{length}
 use lib.Ieee.{Float}
 use Rattle.shapes.specs.declared.point.Point.{Point}
 use Rattle.shapes.specs.declared.circle.Circle.{Circle}
-use Rattle.scope.specs.Limits.{pointCap}
 use Rattle.scope.specs.Runs.{any}
 use Rattle.scope.specs.Refusals.{tooMany, tooManyPoints, badPoint, inks, touchRefusal}
-use Rattle.scope.specs.Touch.{Touched, refusedTouch, touching, countedTouch, touched}
+use Rattle.scope.specs.Touch.{refusedTouch, touching, countedTouch, touched}
 use Rattle.scope.specs.Twins.{unlessMany}
 use Rattle.laws.proofs.Cases.{is-false}
 use Rattle.laws.proofs.Counted.{by-many, at-once}
@@ -26,10 +24,6 @@ use Rattle.touch.specs.Answers.{touchOf, frontPoints, frontTouched}
 pub points-shown : (m : ℕ) (ps : List Point) (zs ws : List Float) → length ps ≡ m → frontPoints m (overwritten (acrossOf ps) zs) (overwritten (upOf ps) ws) ≡ ps
 points-shown m ps zs ws e =
     rw (front-of-column m (acrossOf ps) zs (length-across ps ∙ e), front-of-column m (upOf ps) ws (length-up ps ∙ e)) (points-back ps)
-
-pub few-points : (m : ℕ) → tooManyPoints m ≡ false → m ≤ pointCap
-unfolding tooManyPoints
-few-points m h = ltb-false pointCap m h
 
 -- the points do not matter where a batch is refused
 same-points : (k : ℕ) (cs : List Circle) (ps qs : List Point) (out : List ℕ) → (k ≡ 0 → qs ≡ ps) → touching k cs qs out ≡ touching k cs ps out

@@ -5,10 +5,10 @@ use native.Mathlib.Numerals.{add-one}
 use mathlib.Core.Path.{_≡_, refl, ap, _∙_}
 use mathlib.Core.Logic.{_⊎_, ⊎-elim}
 use mathlib.Core.Bool.{Bool, true, false, cond}
-use mathlib.Core.List.{List, map}
+use mathlib.Core.List.{List}
 use lib.ListN.{length, getD, set, length-map, List·getD-map}
 use lib.Seq.{take-all}
-use lib.Ieee.{Float, nan}
+use lib.Ieee.{Float}
 use Rattle.shapes.specs.declared.point.Point.{Point}
 use Rattle.shapes.specs.Records.{pointAt}
 use Rattle.scope.specs.Numbers.{_-ᶠ_}
@@ -17,10 +17,11 @@ use Rattle.scope.specs.Links.{circle}
 use Rattle.scope.specs.Distance.{containsPoint}
 use Rattle.scope.specs.PackedRows.{packedRow}
 use Rattle.scope.specs.Touch.{touchMask}
+use Rattle.laws.specs.Touch.{noPoint}
 use Rattle.laws.proofs.MaskBits.{put-fits}
 use Rattle.laws.proofs.PackedRows.{packed-small, single-shifted}
 use Rattle.laws.proofs.Runs.{length-tab, getD-tab}
-use Rattle.intake.specs.Columns.{at, noPoint, circlesOf, pointsOf, overwritten}
+use Rattle.intake.specs.Columns.{at, circlesOf, pointsOf, overwritten}
 use Rattle.intake.proofs.Columns.{length-shown, shown-at}
 use Rattle.intake.proofs.Overwriting.{over, over-next}
 use Rattle.geometry.specs.Lengths.{HoldsBy}

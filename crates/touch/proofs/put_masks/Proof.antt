@@ -2,7 +2,6 @@
 use Prim.Native.Nat.{_-_, _≤_}
 use native.Mathlib.Omega.{arith}
 use mathlib.Core.Path.{_≡_, refl}
-use borrow.Author.Needs.{needs}
 use lib.ListN.{length, length-set}
 use Rattle.intake.specs.Limits.{maxCircles}
 use Rattle.intake.proofs.Overwriting.{over}

@@ -6,12 +6,10 @@ use mathlib.Core.Bool.{false}
 use borrow.Author.Needs.{needs}
 use lib.ListN.{length, take}
 use lib.Seq.{length-take-le}
-use Rattle.scope.specs.Limits.{circleCap, pointCap}
 use Rattle.scope.specs.Refusals.{tooMany, tooManyPoints}
 use Rattle.scope.specs.Twins.{firstTouched}
-use Rattle.laws.proofs.Counted.{few}
-use Rattle.intake.proofs.Splitting.{front-shown}
-use Rattle.touch.proofs.Shown.{points-shown, few-points, shown-touched}
+use Rattle.intake.proofs.Splitting.{few-circles, few-points, front-shown}
+use Rattle.touch.proofs.Shown.{points-shown, shown-touched}
 use Rattle.touch.proofs.touch_points_by_value.Statement.{statement}
 use Rattle.touch.proofs.touch_points_by_value.Tie as tie
 
@@ -28,7 +26,7 @@ same-length : tie.Need-same-length
 same-length c = search needs
 
 returns : tie.Need-returns
-unfolding firstTouched circleCap pointCap
+unfolding firstTouched
 returns c =
     let w = c .before .before in
     let p = w .before .before .before .before .before .before .before .before in
@@ -37,7 +35,7 @@ returns c =
     let a = S .args in
     let e = s .split-array .ensures in
     let q = p .split-point-array .ensures in
-    let circles-fit : tooMany (a .n) ≡ false → a .n ≤ length (a .circles) = λ h. omega (arith, few (a .n) h, S .good .0 .1 .0 .1) in
+    let circles-fit : tooMany (a .n) ≡ false → a .n ≤ length (a .circles) = λ h. omega (arith, few-circles (a .n) h, S .good .0 .1 .0 .1) in
     let points-fit : tooManyPoints (a .m) ≡ false → a .m ≤ length (a .points) = λ h. omega (arith, few-points (a .m) h, S .good .1 .1 .0 .1 .0 .1) in
     w .touched-at .ensures
     ∙ shown-touched (a .n) (a .m) (take (a .n) (a .circles)) (take (a .m) (a .points)) _ _ _ _ _ _ _ (a .answers .now)

@@ -15,6 +15,11 @@ Inv-loop word order i₀ i = (i ≤ 19) × Small order × (first (bit word) (dro
 abbrev μ-loop : tie.MeasureT-loop
 μ-loop word order i₀ i = 19 - i
 
+-- a word with no bit has no cause
+returns : tie.Need-returns Inv-loop μ-loop
+unfolding causes first bit
+returns c = rw (c .if1 .taken) refl
+
 loop-holds : tie.Need-loop-holds Inv-loop μ-loop
 loop-holds c = (omega arith, all-small _ tt, refl)
 
@@ -24,12 +29,12 @@ array-read-k c = omega arith
 has-requires : tie.Need-has-requires Inv-loop μ-loop
 has-requires c κs = c .before .loop .inv .1 .each (c .before .loop .i) (c .loop-test .taken)
 
-returns : tie.Need-returns Inv-loop μ-loop
+returns-2 : tie.Need-returns-2 Inv-loop μ-loop
 unfolding causes
-returns c =
+returns-2 c =
     let s = c .before in
     let l = s .before .before .loop in
-    cause-found (bit (s .before .before .before .args .word)) (l .i) (s .before .loop-test .taken) (l .inv .2) (sym (s .has .ensures) ∙ c .if1 .taken)
+    cause-found (bit (s .before .before .before .before .args .word)) (l .i) (s .before .loop-test .taken) (l .inv .2) (sym (s .has .ensures) ∙ c .if2 .taken)
 
 add-i : tie.Need-add-i Inv-loop μ-loop
 add-i c = omega arith
@@ -42,14 +47,14 @@ unfolding causes
 loop-again c =
     let s = c .before in
     let l = s .before .before .loop in
-    (omega arith, l .inv .1, cause-passed (bit (s .before .before .before .args .word)) (l .i) (s .before .loop-test .taken) (l .inv .2) (sym (s .has .ensures) ∙ c .if1 .left))
+    (omega arith, l .inv .1, cause-passed (bit (s .before .before .before .before .args .word)) (l .i) (s .before .loop-test .taken) (l .inv .2) (sym (s .has .ensures) ∙ c .if2 .left))
 
-returns-2 : tie.Need-returns-2 Inv-loop μ-loop
+returns-3 : tie.Need-returns-3 Inv-loop μ-loop
 unfolding causes first
-returns-2 c =
+returns-3 c =
     let l = c .before .loop in
     let all : l .i ≡ 19 = omega arith in
     rw all at (l .inv .2)
 
 pub number-of-spec : {M : Type 1} → statement M
-number-of-spec = tie.close (tie.spec Inv-loop μ-loop loop-holds array-read-k has-requires returns add-i loop-less loop-again returns-2)
+number-of-spec = tie.close (tie.spec Inv-loop μ-loop returns loop-holds array-read-k has-requires returns-2 add-i loop-less loop-again returns-3)

@@ -6,8 +6,9 @@ use borrow.Author.Needs.{needs}
 use lib.ListN.{length, take, length-set}
 use Rattle.scope.specs.Runs.{any}
 use Rattle.scope.specs.Refusals.{badPoint}
+use Rattle.laws.specs.Touch.{noPoint}
 use Rattle.intake.specs.Limits.{maxPoints}
-use Rattle.intake.specs.Columns.{noPoint, acrossOf, upOf}
+use Rattle.intake.specs.Columns.{acrossOf, upOf}
 use Rattle.intake.proofs.Overwriting.{over}
 use Rattle.intake.proofs.SoFar.{any-of-none, any-more}
 use Rattle.intake.proofs.Splitting.{theAcross, theUp, front-next, front-all}

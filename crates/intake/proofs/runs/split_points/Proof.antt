@@ -53,7 +53,8 @@ use Rattle.shapes.proofs.point.Point as T
 use Rattle.shapes.proofs.point.Point.Laws as T′
 use Rattle.scope.specs.Runs.{any}
 use Rattle.scope.specs.Refusals.{badPoint}
-use Rattle.intake.specs.Columns.{noPoint, acrossOf, upOf}
+use Rattle.laws.specs.Touch.{noPoint}
+use Rattle.intake.specs.Columns.{acrossOf, upOf}
 use Rattle.intake.specs.Limits.{maxPoints}
 use Rattle.intake.specs.Splits.{takenPoints}
 use Rattle.intake.proofs.Lending.{refTo}

@@ -7,10 +7,10 @@ use mathlib.Core.Path.{refl, _∙_, _≡_}
 use lib.ListN.{length}
 use Rattle.scope.specs.Links.{Region}
 use Rattle.scope.specs.Runs.{inTurn}
+use Rattle.laws.proofs.MaskBits.{put-grows, put-fits}
 use Rattle.intake.specs.Columns.{circlesOf}
 use Rattle.intake.proofs.Columns.{length-shown}
 use Rattle.layout.specs.Offsets.{ParentsOf, moment}
-use Rattle.layout.proofs.MaskShifts.{mask-fits, mask-grows}
 use Rattle.layout.proofs.OffsetMoves.{offset-all, tried-next, triedFirst}
 use Rattle.layout.proofs.offset.all_tried.Statement.{statement}
 use Rattle.layout.proofs.offset.all_tried.Tie as tie
@@ -32,7 +32,7 @@ only-requires : tie.Need-only-requires Inv-loop μ-loop
 only-requires c κs = omega arith
 
 add-mask : tie.Need-add-mask Inv-loop μ-loop
-add-mask c = let l = c .before .before .before .before .before .before .before .before .before .before .loop in omega (arith, mask-fits (l .mask) (l .i) (omega arith) (l .inv .3), c .only .ensures)
+add-mask c = let l = c .before .before .before .before .before .before .before .before .before .before .loop in omega (arith, put-fits 64 (l .mask) (l .i) (omega arith) (l .inv .3), c .only .ensures)
 
 add-i : tie.Need-add-i Inv-loop μ-loop
 add-i c = omega arith
@@ -56,14 +56,14 @@ loop-again c =
       more,
       long-x,
       long-y,
-      mask-grows (l .mask) (l .i) (l .inv .3),
+      put-grows (l .mask) (l .i) (l .inv .3),
       λ rs shows. tried-next _ _ (a .parents .now) shows _ _ _ (l .i) below (l .inv .4 rs shows) (rw (w .0 .taken) at (tries rs (l .mask) shows)),
     ))
     (λ w. rw (w .1) (
       more,
       long-x,
       long-y,
-      omega (arith, mask-grows (l .mask) (l .i) (l .inv .3)),
+      omega (arith, put-grows (l .mask) (l .i) (l .inv .3)),
       λ rs shows. tried-next _ _ (a .parents .now) shows _ _ _ (l .i) below (l .inv .4 rs shows) (rw (w .0 .left) at (tries rs (l .mask) shows)),
     ))
     (c .if1 .came)
