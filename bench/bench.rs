@@ -42,6 +42,12 @@ struct Length {
 }
 
 #[repr(C)]
+struct Test {
+    refusal: u8,
+    value: bool,
+}
+
+#[repr(C)]
 struct Clusters {
     refusal: u8,
     count: usize,
@@ -59,6 +65,7 @@ type AreaClusters = unsafe extern "C" fn(usize, *const u64, usize, *const f64, u
 type PlainClusters = unsafe extern "C" fn(*const Record, usize) -> Clusters;
 type Root = unsafe extern "C" fn(f64) -> Length;
 type PointDistance = unsafe extern "C" fn(Point, Point) -> Length;
+type ContainsPoint = unsafe extern "C" fn(Record, Point) -> Test;
 
 // The calls of one library.
 struct Library {
@@ -67,10 +74,11 @@ struct Library {
     clusters: PlainClusters,
     root: Root,
     point_distance: PointDistance,
+    contains_point: ContainsPoint,
 }
 
 macro_rules! library {
-    ($link:literal, $layout:ident, $area_clusters:ident, $clusters:ident, $root:ident, $point_distance:ident) => {{
+    ($link:literal, $layout:ident, $area_clusters:ident, $clusters:ident, $root:ident, $point_distance:ident, $contains_point:ident) => {{
         #[link(name = $link, kind = "static")]
         unsafe extern "C" {
             fn $layout(
@@ -87,13 +95,29 @@ macro_rules! library {
             fn $clusters(circles: *const Record, circles_len: usize) -> Clusters;
             fn $root(x: f64) -> Length;
             fn $point_distance(p: Point, q: Point) -> Length;
+            fn $contains_point(c: Record, p: Point) -> Test;
         }
-        Library { layout: $layout, area_clusters: $area_clusters, clusters: $clusters, root: $root, point_distance: $point_distance }
+        Library {
+            layout: $layout,
+            area_clusters: $area_clusters,
+            clusters: $clusters,
+            root: $root,
+            point_distance: $point_distance,
+            contains_point: $contains_point,
+        }
     }};
 }
 
 fn now() -> Library {
-    library!("rundhefja", rundhefja_layout, rundhefja_area_clusters, rundhefja_clusters, rundhefja_root, rundhefja_point_distance)
+    library!(
+        "rundhefja",
+        rundhefja_layout,
+        rundhefja_area_clusters,
+        rundhefja_clusters,
+        rundhefja_root,
+        rundhefja_point_distance,
+        rundhefja_contains_point
+    )
 }
 
 fn before() -> Option<Library> {
@@ -104,7 +128,8 @@ fn before() -> Option<Library> {
         before_rundhefja_area_clusters,
         before_rundhefja_clusters,
         before_rundhefja_root,
-        before_rundhefja_point_distance
+        before_rundhefja_point_distance,
+        before_rundhefja_contains_point
     ));
     #[cfg(not(before))]
     return None;
@@ -516,6 +541,23 @@ fn main() {
             for pair in points.windows(2) {
                 let [p, q] = [pair[0], pair[1]].map(|p| eunoia::Point::new(p.x, p.y));
                 black_box(black_box(p).distance(&black_box(q)));
+            }
+        },
+    );
+    let circles: Vec<[f64; 3]> = points.iter().map(|p| [p.x, p.y, 1.0 + random.unit() * 1e3]).collect();
+    let given: Vec<Record> = circles.chunks(64).flat_map(|c| Card::new(c, &[]).circles).collect();
+    let shapes: Vec<_> = circles.iter().map(|&[x, y, radius]| eunoia::Circle::of(x, y, radius)).collect();
+    report(
+        "a circle and a point alone",
+        points.len() - 1,
+        |library| {
+            for (c, p) in given.iter().zip(&points[1..]) {
+                black_box(unsafe { (library.contains_point)(black_box(*c), black_box(*p)) });
+            }
+        },
+        || {
+            for (c, p) in shapes.iter().zip(&points[1..]) {
+                black_box(eunoia::Closed::contains_point(black_box(c), &black_box(eunoia::Point::new(p.x, p.y))));
             }
         },
     );

@@ -52,13 +52,16 @@ const ORDER: [u8; 19] = [
     19,
 ];
 
-// The first cause of a word in that order, 0 where none holds.
+// The first cause of a word in that order, 0 where none holds: so at once of what is accepted.
 pub fn number_of(word: u32) -> u8
     ensures { λ r. ⌜ r ≡ first (bit word) causes ⌝ }
 {
-    if word == 0 {
-        return 0;
-    }
+    if word == 0 { 0 } else { first_of(word) }
+}
+
+fn first_of(word: u32) -> u8
+    ensures { λ r. ⌜ r ≡ first (bit word) causes ⌝ }
+{
     let order = ORDER;
     let mut i: usize = 0;
     while i < 19 {
