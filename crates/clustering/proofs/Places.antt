@@ -7,31 +7,25 @@ use mathlib.Core.Bool.{Bool, true, false, not, _&&_, and-true, false≢true}
 use lib.Bits.{bitAnd, and-le-r}
 use lib.Count.{trailingZeros}
 use lib.Dec.{eqb, ltb}
-use borrow.Author.Tests.{eq-eqb, ne-eqb}
 use Rattle.scope.specs.Runs.{bit}
 use Rattle.laws.proofs.PackedRows.{bit-none, bit-without, bit-packed, all-marked}
 use Rattle.intake.specs.Firsts.{FirstFrom}
 use Rattle.intake.proofs.Beyond.{no-bit-beyond}
-use Rattle.intake.proofs.TrailingZeros.{clear-below, set-above, lowest-cleared}
+use Rattle.intake.proofs.TrailingZeros.{lowest-there, none-lower, lowest-cleared}
 
 -- ---- the first
 
-apart-digits : {x : ℕ} → x ≡ 0 → x ≡ 1 → ⊥
-apart-digits e t = absurd (omega arith)
-
 pub first-there : (m : ℕ) → m < 2 ^ 64 → (m ≡ 0 → ⊥) → bit m (trailingZeros 64 m) ≡ true
-unfolding bit
-first-there m f h = eq-eqb _ 1 (set-above 64 m h f)
+first-there m f h = lowest-there 64 m f h
 
 pub first-inside : (m : ℕ) → m < 2 ^ 64 → (m ≡ 0 → ⊥) → trailingZeros 64 m < 64
 first-inside m f h = elim (decLt (trailingZeros 64 m) 64) [ yes l ↦ l | no g ↦ absurd (false≢true (no-bit-beyond m (trailingZeros 64 m) f (omega arith) ∙ first-there m f h)) ]
 
 pub first-found : (m : ℕ) → m < 2 ^ 64 → (m ≡ 0 → ⊥) → FirstFrom (bit m) 0 64 (trailingZeros 64 m)
-unfolding bit
 first-found m f h = record {
   beyond = omega arith;
   within = omega (arith, first-inside m f h);
-  passed = λ k a b. ne-eqb _ 1 (λ t. apart-digits (clear-below 64 m k b) t);
+  passed = λ k a b. none-lower 64 m k b;
   found = λ g. first-there m f h;
 }
 

@@ -1,19 +1,25 @@
 -- Words of causes: one cause, two words joined, and the number that a word gives, which is the refusal of what it says.
-use Prim.Native.Nat.{ℕ, _+_, _^_, _<_}
-use native.Mathlib.Numerals.{add-one}
-use mathlib.Core.Path.{_≡_, refl, sym, ap, _∙_}
-use mathlib.Core.Bool.{Bool, true, false, cond, _&&_, _||_, or-false, or-assoc, and-true, and-false}
+use Prim.Native.Nat.{ℕ, _^_, _≤_, _<_}
+use native.Mathlib.Nat.{lt-of-lt-of-le, lt-of-le-of-lt}
+use native.Mathlib.Decide.{decLt, ℕ-discrete}
+use native.Mathlib.Omega.{arith}
+use mathlib.Core.Path.{_≡_, refl, sym, ap, _∙_, subst}
+use mathlib.Core.Bool.{Bool, true, false, cond, _&&_, _||_, or-false, or-assoc, and-true, and-false, true≢false}
 use mathlib.Core.List.{List, [], _∷_, _++_}
-use lib.Bits.{bitOr}
-use lib.Dec.{T, eqb, ltb, ltb→lt}
-use lib.ListN.{getD, length, drop}
-use lib.Seq.{drop-cons}
+use lib.Bits.{bitAnd, bitOr, and-le-r}
+use lib.Count.{trailingZeros}
+use lib.Dec.{T, eqb, ltb, ltb→lt, lit<}
+use lib.ListN.{drop, replicate}
+use lib.Pow.{pow-mono}
+use borrow.Author.Tests.{ne-eqb}
 use Rattle.algebra.proofs.Table.{every, at}
 use Rattle.scope.specs.Runs.{bit}
 use Rattle.scope.specs.Refusals.{causes, Checks, causeHolds, first, refusal}
-use Rattle.laws.proofs.MaskBits.{bit-joined}
+use Rattle.laws.proofs.Cases.{and-iff, is-true}
+use Rattle.laws.proofs.MaskBits.{bit-joined, bit-common, bit-past}
 use Rattle.laws.proofs.PackedRows.{bit-none, bit-single}
 use Rattle.intake.specs.CauseWords.{Says}
+use Rattle.intake.proofs.TrailingZeros.{lowest-there, none-lower}
 
 -- ---- one cause
 pub one-cause : (j : ℕ) (b : Bool) {w : ℕ} → w ≡ cond b (2 ^ j) 0 → Says w ((j, b) ∷ [])
@@ -86,22 +92,97 @@ unfolding refusal first causeHolds causes
 touch-checks a true c h p m s = refl
 touch-checks a false c h p m s = refl
 
--- ---- the search for it, cause by cause
-abbrev small : ℕ → ℕ → Bool
-small i k = ltb k 32
+-- ---- the number of a word, by its lowest bit
 
--- each is a bit of a word, in whatever order they are
-pub record Small (l : List ℕ) : Type 0 where
-  pub each : (i : ℕ) → i < length l → getD l i 0 < 32
+-- the bits of all causes
+abbrev pub known : ℕ
+known = 1048574
 
-pub all-small : (l : List ℕ) → T (every small 0 l) → Small l
-all-small l t = record { each = λ i h. ltb→lt (getD l i 0) 32 (at small 0 l t i h) }
+-- a word without the bits that are no cause's
+abbrev pub knownOf : ℕ → ℕ
+knownOf w = bitAnd w known
 
-module _ (p : ℕ → Bool) (i : ℕ) (inside : i < length causes) where
-  pub cause-found : first p (drop i causes) ≡ first p causes → p (getD causes i 0) ≡ true → getD causes i 0 ≡ first p causes
-  unfolding first
-  cause-found e t = sym (sym e ∙ rw (drop-cons causes i 0 inside, t))
+abbrev allKnown : List ℕ → Bool
+allKnown [] = true
+allKnown (k ∷ ks) = bit known k && allKnown ks
 
-  pub cause-passed : first p (drop i causes) ≡ first p causes → p (getD causes i 0) ≡ false → first p (drop (i + 1) causes) ≡ first p causes
-  unfolding first
-  cause-passed e f = sym (sym e ∙ rw (drop-cons causes i 0 inside, f, add-one))
+first-known : (w : ℕ) (ks : List ℕ) → T (allKnown ks) → first (bit w) ks ≡ first (bit (knownOf w)) ks
+unfolding first
+first-known w [] t = refl
+first-known w (k ∷ ks) t =
+    let both = and-iff (bit known k) (allKnown ks) .0 t in
+    rw (bit-common w known k, is-true (bit known k) (both .0), and-true (bit w k), first-known w ks (both .1))
+
+pub number-known : (w : ℕ) → first (bit w) causes ≡ first (bit (knownOf w)) causes
+unfolding causes bit
+number-known w = first-known w causes tt
+
+pub no-number : first (bit 0) causes ≡ 0
+unfolding causes first bit
+no-number = refl
+
+-- a list that rises up to k, and has it
+abbrev rises : ℕ → List ℕ → Bool
+rises k [] = false
+rises k (c ∷ cs) = eqb c k || (ltb c k && rises k cs)
+
+first-lowest : (p : ℕ → Bool) (k : ℕ) → p k ≡ true → ((c : ℕ) → c < k → p c ≡ false) → (ks : List ℕ) → T (rises k ks) → first p ks ≡ k
+unfolding first
+first-lowest p k h low [] t = absurd t
+first-lowest p k h low (c ∷ cs) t = elim (ℕ-discrete c k) [
+  | yes e ↦ rw (e, h)
+  | no f ↦
+      let both = and-iff (ltb c k) (rises k cs) .0 (rw (ne-eqb c k f) at t) in
+      rw (low c (ltb→lt c k (both .0))) (first-lowest p k h low cs (both .1))
+]
+
+-- behind 1 and 13 the causes rise
+abbrev later : ℕ → Bool
+later k = eqb k 0 || (eqb k 1 || (eqb k 13 || rises k (drop 2 causes)))
+
+later-all : T (every (λ k (_ : ℕ). later k) 0 (replicate 20 0))
+unfolding causes
+later-all = tt
+
+rises-at : (k : ℕ) → k < 20 → (k ≡ 0 → ⊥) → (k ≡ 1 → ⊥) → (k ≡ 13 → ⊥) → T (rises k (drop 2 causes))
+rises-at k h f g e = rw (ne-eqb k 0 f, ne-eqb k 1 g, ne-eqb k 13 e) at (at (λ k (_ : ℕ). later k) 0 (replicate 20 0) later-all k h)
+
+-- 13 and 1 do not hold: the first is the lowest
+first-behind : (p : ℕ → Bool) → p 1 ≡ false → p 13 ≡ false → first p causes ≡ first p (drop 2 causes)
+unfolding causes first
+first-behind p one thirteen = rw (one, thirteen)
+
+pub first-one : (p : ℕ → Bool) → p 1 ≡ true → first p causes ≡ 1
+unfolding causes first
+first-one p one = rw one
+
+pub first-thirteen : (p : ℕ → Bool) → p 1 ≡ false → p 13 ≡ true → first p causes ≡ 13
+unfolding causes first
+first-thirteen p one thirteen = rw (one, thirteen)
+
+known-small : (k : ℕ) → 20 ≤ k → known < 2 ^ k
+known-small k h = lt-of-lt-of-le (lit< tt) (pow-mono {i = 20} {j = k} h)
+
+no-nought : ¬ T (bit known 0)
+unfolding bit
+no-nought t = t
+
+known-place : (k : ℕ) → T (bit known k) → (k < 20) × (k ≡ 0 → ⊥)
+known-place k t = (
+  elim (decLt k 20) [ yes h ↦ h | no h ↦ absurd (bit-past known k (known-small k (omega arith)) t) ],
+  λ e. no-nought (subst (λ (i : ℕ). T (bit known i)) e t),
+)
+
+module _ (w : ℕ) (some : knownOf w ≡ 0 → ⊥) (one : bit (knownOf w) 1 ≡ false) (thirteen : bit (knownOf w) 13 ≡ false) where
+  there : bit (knownOf w) (trailingZeros 32 (knownOf w)) ≡ true
+  there = lowest-there 32 (knownOf w) (lt-of-le-of-lt (and-le-r w known) (lit< tt)) some
+
+  other : (k : ℕ) → bit (knownOf w) k ≡ false → trailingZeros 32 (knownOf w) ≡ k → ⊥
+  other k f e = true≢false (sym (subst (λ (i : ℕ). bit (knownOf w) i ≡ true) e there) ∙ f)
+
+  pub lowest-number : trailingZeros 32 (knownOf w) ≡ first (bit w) causes
+  lowest-number =
+      let k = trailingZeros 32 (knownOf w) in
+      let place = known-place k (and-iff (bit w k) (bit known k) .0 (rw (← bit-common w known k, there) tt) .1) in
+      sym (number-known w ∙ first-behind (bit (knownOf w)) one thirteen
+      ∙ first-lowest (bit (knownOf w)) k there (none-lower 32 (knownOf w)) (drop 2 causes) (rises-at k (place .0) (place .1) (other 1 one) (other 13 thirteen)))

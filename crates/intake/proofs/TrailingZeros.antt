@@ -4,8 +4,11 @@ use native.Mathlib.Omega.{arith}
 use native.Mathlib.Nat.{div-one, div-div-eq-div-mul, pow-succ'}
 use mathlib.Core.Path.{_≡_, refl, sym, ap}
 use mathlib.Core.Logic.{_⊎_, inl, inr}
+use mathlib.Core.Bool.{true, false}
 use lib.Bits.{bitAnd, and-step, and-self}
 use lib.Count.{trailingZeros, under}
+use borrow.Author.Tests.{eq-eqb, ne-eqb}
+use Rattle.scope.specs.Runs.{bit}
 
 digit : (n : ℕ) → (n % 2 ≡ 0) ⊎ (n % 2 ≡ 1)
 digit n = two (n % 2) (omega arith)
@@ -19,7 +22,7 @@ halved n t = rw (pow-succ' 2 t) (sym (div-div-eq-div-mul n 2 (2 ^ t)))
 
 -- ---- the digits of n below the count are 0, and the next is 1, unless n is 0
 
-pub clear-below : (d n t : ℕ) → t < trailingZeros d n → n / 2 ^ t % 2 ≡ 0
+clear-below : (d n t : ℕ) → t < trailingZeros d n → n / 2 ^ t % 2 ≡ 0
 unfolding trailingZeros
 clear-below zero n t h = absurd (omega arith)
 clear-below (suc d) n t h = elim (digit n) [
@@ -31,7 +34,7 @@ clear-below (suc d) n t h = elim (digit n) [
     first zero l e rest = rw (div-one n) e
     first (suc t) l e rest = rw (halved n t) (rest t (omega arith))
 
-pub set-above : (d n : ℕ) → (n ≡ 0 → ⊥) → n < 2 ^ d → n / 2 ^ trailingZeros d n % 2 ≡ 1
+set-above : (d n : ℕ) → (n ≡ 0 → ⊥) → n < 2 ^ d → n / 2 ^ trailingZeros d n % 2 ≡ 1
 unfolding trailingZeros
 set-above zero n h l = absurd (h (omega arith))
 set-above (suc d) n h l = elim (digit n) [
@@ -41,6 +44,19 @@ set-above (suc d) n h l = elim (digit n) [
   where
     half : (p : ℕ) → n < 2 * p → n / 2 < p
     half p l = omega arith
+
+-- ---- so as bits
+
+apart-digits : {x : ℕ} → x ≡ 0 → x ≡ 1 → ⊥
+apart-digits e t = absurd (omega arith)
+
+pub lowest-there : (d m : ℕ) → m < 2 ^ d → (m ≡ 0 → ⊥) → bit m (trailingZeros d m) ≡ true
+unfolding bit
+lowest-there d m l h = eq-eqb _ 1 (set-above d m h l)
+
+pub none-lower : (d m k : ℕ) → k < trailingZeros d m → bit m k ≡ false
+unfolding bit
+none-lower d m k h = ne-eqb _ 1 (apart-digits (clear-below d m k h))
 
 -- ---- a number and the one before it have the same digits above that one, and none in common up to it
 
