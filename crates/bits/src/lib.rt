@@ -1,4 +1,6 @@
 // Floats and their patterns.
+#![tactic(auto)]
+
 ghost use Rattle.std.specs.Prelude.{◌≡◌};
 ghost use Rattle.std.specs.Float.{nan};
 ghost use Rattle.scope.specs.CardFile.{float_of, pattern_of};

@@ -1,12 +1,14 @@
 // Reads a card file on standard input and prints its layout: `card_text` decides everything.
 // Only a read that answers 0 is the end of the input. Where a read or a write fails, an interrupted one too, a line on standard error says so: after a failed
 // read nothing stands on standard output, and after a failed write what stands there may be cut.
+#![tactic(auto)]
+
 ghost use Rattle.card.specs.Inputs.{Held};
 
 use libc::{STDERR_FILENO, STDIN_FILENO, STDOUT_FILENO};
 
 // What came on standard input: so many bytes up to its end, or as many as there is room for; or a read failed.
-#[derive(Drop)]
+#[derive(Clone, Copy)]
 pub enum Input {
     Bytes(usize),
     Failed,

@@ -21,7 +21,7 @@ pub accepted_is_whole : (rest : List ℕ) → field_refusal rest ≡ 0 → body_
 accepted_is_whole rest e = is_false (body_cut rest) ((field_reads rest).accepted.0 e).1.1.1.0
 
 pub refused-answer : {A : Type 0} (k : ℕ) (a : A) → (k ≡ 0 → ⊥) → answer k a ≡ refused k
-refused-answer k a h = (answer-answers k a).at-refusal h
+refused-answer k a h = (answer-answers k a).at_refusal h
 
 pub given-answer : {A : Type 0} (k : ℕ) (a : A) → k ≡ 0 → answer k a ≡ given a
-given-answer k a h = (answer-answers k a).on-acceptance h
+given-answer k a h = (answer-answers k a).on_acceptance h

@@ -89,14 +89,14 @@ module _ {file : List ℕ} {start : ℕ} {factor : Float} {n : ℕ} {circles : L
   -- the check knows the card's counts alone
   pub refusal_is : {k : ℕ} → ((card : Card) → length card.circles ≡ n → length card.masks ≡ m → k ≡ next_refusal card (drop at file))
       → k ≡ next_refusal (listed factor n circles m masks patterns areas) (drop at file)
-  refusal_is e = e (listed factor n circles m masks patterns areas) (used_length before.circles-used) (used_length before.masks-used)
+  refusal_is e = e (listed factor n circles m masks patterns areas) (used_length before.circles_used) (used_length before.masks_used)
 
   module _ (accepted : next_refusal (listed factor n circles m masks patterns areas) (drop at file) ≡ 0) where
     pub circle-fits : tag (drop at file) ≡ 2 → n < max_circles
-    circle-fits t = omega (arith, room_for_circle _ (drop at file) accepted t, used_length before.circles-used)
+    circle-fits t = omega (arith, room_for_circle _ (drop at file) accepted t, used_length before.circles_used)
 
     pub region-fits : (tag (drop at file) ≡ 2 → ⊥) → m < max_regions
-    region-fits t = omega (arith, room_for_region _ (drop at file) accepted (is_region _ (drop at file) accepted t), used_length before.masks-used)
+    region-fits t = omega (arith, room_for_region _ (drop at file) accepted (is_region _ (drop at file) accepted t), used_length before.masks_used)
 
   module _ (inside : at < length file) where
     pub turn : fields 0 (started factor) (drop start file)
@@ -110,11 +110,11 @@ module _ {file : List ℕ} {start : ℕ} {factor : Float} {n : ℕ} {circles : L
       with_circle_lem t =
           let room = circle-fits accepted t in
           record {
-            circles_used = one_more_used _ room before.circles-used;
-            masks_used = before.masks-used;
-            patterns_used = before.patterns-used;
-            areas_used = before.areas-used;
-            same = turn ∙ goes_on _ _ accepted ∙ rw (circle_added factor n circles m masks patterns areas (drop at file) t room before.circles-used);
+            circles_used = one_more_used _ room before.circles_used;
+            masks_used = before.masks_used;
+            patterns_used = before.patterns_used;
+            areas_used = before.areas_used;
+            same = turn ∙ goes_on _ _ accepted ∙ rw (circle_added factor n circles m masks patterns areas (drop at file) t room before.circles_used);
           }
 
       pub with_region_lem : (tag (drop at file) ≡ 2 → ⊥)
@@ -123,11 +123,11 @@ module _ {file : List ℕ} {start : ℕ} {factor : Float} {n : ℕ} {circles : L
       with_region_lem t =
           let room = region-fits accepted t in
           record {
-            circles_used = before.circles-used;
-            masks_used = one_more_used _ room before.masks-used;
-            patterns_used = one_more_used _ room before.patterns-used;
-            areas_used = one_more_used _ room before.areas-used;
+            circles_used = before.circles_used;
+            masks_used = one_more_used _ room before.masks_used;
+            patterns_used = one_more_used _ room before.patterns_used;
+            areas_used = one_more_used _ room before.areas_used;
             same =
                 turn ∙ goes_on _ _ accepted
-                ∙ rw (region_added factor n circles m masks patterns areas (drop at file) t room before.masks-used before.patterns-used before.areas-used);
+                ∙ rw (region_added factor n circles m masks patterns areas (drop at file) t room before.masks_used before.patterns_used before.areas_used);
           }

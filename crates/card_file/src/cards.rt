@@ -19,7 +19,7 @@ use intake::runs::split_array;
 use shapes::circle::Circle;
 
 // A refusal's number or 0, the factor, n circles and m regions. Each area stands beside its pattern, and what is not used is 0.
-#[derive(Drop)]
+#[derive(Clone, Copy)]
 pub struct Card {
     pub refusal: u8,
     pub factor: f64,

@@ -25,7 +25,7 @@ use shapes::circle::Circle;
 use shapes::point::Point;
 
 // What a field holds, or the refusal's number.
-#[derive(Drop)]
+#[derive(Clone, Copy)]
 pub enum Field {
     Factor(f64),
     Circle(Circle),

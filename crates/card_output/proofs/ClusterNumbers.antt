@@ -27,6 +27,6 @@ module _ (cs : List Circle) (factor : Float) (masks : List ℕ) (areas : List Fl
       let answers = layout-answers cs factor masks areas proportion in
       let numbering = clusters_numbering (length cs) (regions masks areas) (tolerance (regions masks areas)) in
       elim (ℕ_discrete (layout_refusal cs factor masks areas proportion) 0) [
-        | yes z ↦ rw (answers.on-acceptance z) (numbering.few, λ i h. rw (get_or_filled_any circle_cap 0 g.numbers i) (numbering.at_most i h))
-        | no z ↦ rw (answers.at-refusal z) (omega arith, λ i h. rw (filled_from_nothing {A = ℕ} circle_cap 0 i) (omega arith))
+        | yes z ↦ rw (answers.on_acceptance z) (numbering.few, λ i h. rw (get_or_filled_any circle_cap 0 g.numbers i) (numbering.at_most i h))
+        | no z ↦ rw (answers.at_refusal z) (omega arith, λ i h. rw (filled_from_nothing {A = ℕ} circle_cap 0 i) (omega arith))
       ]

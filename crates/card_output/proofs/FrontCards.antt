@@ -138,7 +138,7 @@ module _ (n : ℕ) (xs ys rs : List Float) (is : List ℕ) (factor : Float) (mas
 
     pub written-refused : (k : ℕ) → k ≡ number → k ≢ 0
         → (saved (record { refusal = k; length = 0 }) out ≡ front_written n xs ys rs is factor masks patterns out) × ReadsBack card (record { refusal = k; length = 0 }) out
-    written-refused k e h = (sym (front-answers.at-refusal (λ z. h (e ∙ z)) ∙ ap (refused_saving out) (sym e)), λ z. absurd (h z))
+    written-refused k e h = (sym (front-answers.at_refusal (λ z. h (e ∙ z)) ∙ ap (refused_saving out) (sym e)), λ z. absurd (h z))
 
     pub written-accepted : (r : Written) (after : List ℕ) → number ≡ 0 → saved r after ≡ accepted_saving (file_of card) out → AreTyped card
         → (saved r after ≡ front_written n xs ys rs is factor masks patterns out) × ReadsBack card r after
@@ -146,4 +146,4 @@ module _ (n : ℕ) (xs ys rs : List Float) (is : List ℕ) (factor : Float) (mas
         let values = (taken card (length out) (length (file_of card)) (none-counted n _ z).2).0 in
         let file : take r.length after ≡ file_of card =
         rw (ap (λ (s : Saved). s.written) e, ap (λ (s : Saved). s.output) e) (take_at (file_of card) (drop (length (file_of card)) out) (length (file_of card)) refl) in
-        (e ∙ sym (front-answers.on-acceptance z), λ _. ap read_card file ∙ cards-saved.reads-back factor cs masks patterns typed values)
+        (e ∙ sym (front-answers.on_acceptance z), λ _. ap read_card file ∙ cards-saved.reads_back factor cs masks patterns typed values)

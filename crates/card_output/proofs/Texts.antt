@@ -83,8 +83,8 @@ module _ (input out : List ℕ) where
   unfolding too_short
   text-refused h =
       let fifteen : text_refusal (length out) (length (card_text input)) ≡ 15 = text-number ∙ rw (lt-ltb (length out) (length (card_text input)) h) in
-      sym (rw fifteen at ((write_text-answers input out).at-refusal (λ z. omega (arith, fifteen))))
+      sym (rw fifteen at ((write_text-answers input out).at_refusal (λ z. omega (arith, fifteen))))
 
   pub text-written : length (card_text input) ≤ length out → accepted_saving (card_text input) out ≡ write_text input out
   unfolding too_short
-  text-written h = sym ((write_text-answers input out).on-acceptance (text-number ∙ rw (le-ltb (length out) (length (card_text input)) h)))
+  text-written h = sym ((write_text-answers input out).on_acceptance (text-number ∙ rw (le-ltb (length out) (length (card_text input)) h)))

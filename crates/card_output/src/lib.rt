@@ -1,4 +1,6 @@
 // What is made of a card: the text of its layout, and its file.
+#![tactic(auto)]
+
 mod lines;
 mod puts;
 mod writing;
@@ -32,7 +34,7 @@ pub const MAX_TEXT: usize = 4096;
 pub const MAX_FILE: usize = 40779;
 
 // The text is the first `length` bytes, and the rest is 0.
-#[derive(Drop)]
+#[derive(Clone, Copy)]
 pub struct Text {
     pub length: usize,
     pub bytes: [u8; MAX_TEXT],
@@ -87,7 +89,7 @@ fn layout_text(card: Card) -> Text
 
 // A refusal's number or 0, and how many bytes were written from the start of a lent list: 0 where the call is refused.
 #[repr(C)]
-#[derive(Drop)]
+#[derive(Clone, Copy)]
 pub struct Written {
     pub refusal: u8,
     pub length: usize,

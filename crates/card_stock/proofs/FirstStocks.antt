@@ -47,7 +47,7 @@ module _ (n : ℕ) (cs : List Circle) (factor : Float) (masks : List ℕ) (areas
     unfolding first_stock
     stock_refused h =
         rw number_is (by_many n (λ e. rw e)
-        (λ e. let some : stock_refusal (take n cs) factor masks areas proportion cents ≢ 0 = λ z. h (number_is ∙ rw e z) in rw e (sym ((stock_answers (take n cs) factor masks areas proportion cents).at-refusal some))))
+        (λ e. let some : stock_refusal (take n cs) factor masks areas proportion cents ≢ 0 = λ z. h (number_is ∙ rw e z) in rw e (sym ((stock_answers (take n cs) factor masks areas proportion cents).at_refusal some))))
 
     -- ---- where none is refused
     module _ (z : k ≡ 0) (long : length cs ≡ max_circles) where
@@ -65,7 +65,7 @@ module _ (n : ℕ) (cs : List Circle) (factor : Float) (masks : List ℕ) (areas
       first-length = length-take-le n cs inside
 
       finished-length : length own.circles ≡ n
-      finished-length = ap (λ (l : Layout). length l.circles) ((layout-answers (take n cs) factor masks areas proportion).on-acceptance both.0) ∙ arranged-length proportion (take n cs) factor _ ∙ first-length
+      finished-length = ap (λ (l : Layout). length l.circles) ((layout-answers (take n cs) factor masks areas proportion).on_acceptance both.0) ∙ arranged-length proportion (take n cs) factor _ ∙ first-length
 
       -- the first n of the circles that came back are the finished ones
       finished : take n laid.circles ≡ own.circles
@@ -80,4 +80,4 @@ module _ (n : ℕ) (cs : List Circle) (factor : Float) (masks : List ℕ) (areas
 
       pub stock_accepted : record { refusal = 0; amount = stock_for (take n laid.circles) cents } ≡ first_stock n cs factor masks areas proportion cents
       unfolding first_stock
-      stock_accepted = rw (none.0, finished) (sym ((stock_answers (take n cs) factor masks areas proportion cents).on-acceptance none.2))
+      stock_accepted = rw (none.0, finished) (sym ((stock_answers (take n cs) factor masks areas proportion cents).on_acceptance none.2))

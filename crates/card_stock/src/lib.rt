@@ -1,4 +1,6 @@
 // Card stock charged to the recipe: what the sheet of a finished layout costs, to the cent. What is laid out is a copy: the circles lent are only read.
+#![tactic(auto)]
+
 ghost use Rattle.std.specs.Prelude.{◌≡◌, cond, ◌+◌, ◌^◌, ◌≤◌, ◌<◌, T, eqb, length, take};
 ghost use Rattle.scope.specs.Limits.{price_ok};
 ghost use Rattle.scope.specs.Refusals.{bad_price};
@@ -20,7 +22,7 @@ use shapes::point::Point;
 
 // A refusal's number or 0, and the amount in cents: 0 where the call is refused.
 #[repr(C)]
-#[derive(Drop)]
+#[derive(Clone, Copy)]
 pub struct Charge {
     pub refusal: u8,
     pub amount: u64,

@@ -32,5 +32,5 @@ module _ (n : ℕ) (masks : List ℕ) (areas : List Float) where
   area_chains tol r e z i j hi hj =
       let answers = area_grouping-answers n masks areas tol in
       let none : regions_refusal n masks areas ≡ 0 = sym (ap (λ (g : Grouping). g.refusal) e ∙ answers.says) ∙ z in
-      let same : r.numbers ≡ filled circle_cap 0 (clusters n (regions masks areas) tol).numbers = ap (λ (g : Grouping). g.numbers) (e ∙ answers.on-acceptance none) in
+      let same : r.numbers ≡ filled circle_cap 0 (clusters n (regions masks areas) tol).numbers = ap (λ (g : Grouping). g.numbers) (e ∙ answers.on_acceptance none) in
       rw same (same_filled_number_iff_chain n (regions masks areas) tol i j hi hj circle_cap)

@@ -1,5 +1,7 @@
 // Which circles belong together: by the regions that they share, or by how they lie.
 // Circles stand in three lists of one length: their centres' x, their centres' y, their radii. Inks count for the refusal alone.
+#![tactic(auto)]
+
 ghost use Rattle.std.specs.Prelude.{◌≡◌, Bool, false, not, cond, ◌&&◌, ◌||◌, List, ℕ, ◌<◌, ◌≤◌, eqb, ltb, length};
 ghost use Rattle.std.specs.Float.Ieee.Scale.{finite};
 ghost use Rattle.scope.specs.Numbers.{◌≤ᶠ◌};
@@ -28,7 +30,7 @@ use shapes::point::Point;
 
 // A refusal's number or 0, how many clusters there are, and the cluster of each circle. What is not used is 0.
 #[repr(C)]
-#[derive(Drop)]
+#[derive(Clone, Copy)]
 pub struct Clusters {
     pub refusal: u8,
     pub count: usize,

@@ -20,7 +20,7 @@ use shapes::circle::Circle;
 use shapes::point::Point;
 
 // Yes or no, or a refusal's number.
-#[derive(Drop)]
+#[derive(Clone, Copy)]
 pub enum Decided {
     Is(bool),
     Refused(u8),

@@ -9,7 +9,7 @@ use intake::causes::{number_of, of_points};
 use shapes::point::Point;
 
 // A length, or a refusal's number.
-#[derive(Drop)]
+#[derive(Clone, Copy)]
 pub enum Measured {
     Of(f64),
     Refused(u8),

@@ -120,7 +120,7 @@ U16s = Numbers uint16
 -- ---- a local array of zeros
 each-nought : (k : Number) (n : ℕ) → shadow (each k.Of k.owns (replicate n k.nought) (replicate n (k.val k.nought)))
 each-nought k zero = tt
-each-nought k (suc n) = (k.nought-is, each-nought k n)
+each-nought k (suc n) = (k.nought_is, each-nought k n)
 
 module _ (k : Number) where
   -- its machine value

@@ -1,4 +1,6 @@
 // What a call takes: the limits of its numbers, what it refuses, and the runs of records that a caller lends.
+#![tactic(auto)]
+
 pub mod blanks;
 pub mod causes;
 pub mod limits;

@@ -137,16 +137,16 @@ card_accepted_iff cs factor masks areas =
         different.0 h.1.1.1.1.1.1.1.0,
       ),
       λ a. (
-        circles.1 a.0.few-circles,
+        circles.1 a.0.few_circles,
         (
           lists.1 a.0.paired,
           (
-            regions.1 a.0.few-regions,
+            regions.1 a.0.few_regions,
             (
               centres.1 a.0.centres,
               (
                 radii.1 a.0.radii,
-                (order.1 a.0.masks-rise, (inside.1 a.0.factor-inside, (different.1 a.1, tt))),
+                (order.1 a.0.masks_rise, (inside.1 a.0.factor-inside, (different.1 a.1, tt))),
               ),
             ),
           ),

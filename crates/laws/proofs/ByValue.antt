@@ -53,8 +53,8 @@ module _ {A : Type 0} {number_of : A → ℕ} {refuse : ℕ → A} where
       → ((k : ℕ) → put (refuse k) ≡ refuse' k) → Answers number_of number answer refuse value → Answers numberOf' number (put answer) refuse' (put value)
   inside put same refused inner = record {
     says = same _ ∙ inner.says;
-    at_refusal = λ z. ap put (inner.at-refusal z) ∙ refused _;
-    on_acceptance = λ z. ap put (inner.on-acceptance z);
+    at_refusal = λ z. ap put (inner.at_refusal z) ∙ refused _;
+    on_acceptance = λ z. ap put (inner.on_acceptance z);
   }
 
 first_few : {A : Type 0} (n : ℕ) (l : List A) → length (take n l) ≤ n

@@ -129,12 +129,12 @@ module _ (file : List ℕ) where
   values_after r = ap valued (reads_all r)
 
   card_accepts : (card : Card) → Reaches file card [] × (values_refusal card ≡ 0) → read_card file ≡ given card
-  card_accepts card h = values_after h.0 ∙ (answer-answers (values_refusal card) card).on-acceptance h.1
+  card_accepts card h = values_after h.0 ∙ (answer-answers (values_refusal card) card).on_acceptance h.1
 
   card_refuses : (k : ℕ) → k ≢ 0 → CardRefused file k → read_card file ≡ refused k
   unfolding read_card valued
   card_refuses k nz (by_field f) = ap valued (refuses k nz f)
-  card_refuses k nz (by_values {card} r e) = values_after r ∙ (answer-answers (values_refusal card) card).at-refusal (λ z. nz (sym e ∙ z)) ∙ ap refused e
+  card_refuses k nz (by_values {card} r e) = values_after r ∙ (answer-answers (values_refusal card) card).at_refusal (λ z. nz (sym e ∙ z)) ∙ ap refused e
 
   card_outcome : Outcome → Either (CardRefused file) (λ (card : Card). Reaches file card [] × (values_refusal card ≡ 0))
   card_outcome (inl (k, (nz, f))) = inl (k, (nz, by_field f))

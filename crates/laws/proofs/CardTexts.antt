@@ -52,7 +52,7 @@ module _ (input : List ℕ) where
   accepted-text card h r z =
       let accepted = layout_at_golden card.circles card.factor card.masks card.areas ∙ z in
       short-text h ∙ ap answer_text (((card_both_ways input).gives card).1 (r, z))
-      ∙ ap printed ((layout-answers card.circles card.factor card.masks card.areas golden).on-acceptance accepted)
+      ∙ ap printed ((layout-answers card.circles card.factor card.masks card.areas golden).on_acceptance accepted)
 
   pub text_refused_iff : (k : ℕ) → k ≢ 0 → (card_text input ≡ refused_text k) ↔ InputRefused input k
   unfolding answer_text

@@ -75,7 +75,7 @@ module _ (t : ℕ) (bs more : List ℕ) (fits : length bs ≡ length_of_body t) 
 
 pub head_there : (rest : List ℕ) → Whole rest → head_length ≤ length rest
 unfolding head_cut
-head_there rest w = (not_ltb_iff (length rest) head_length).0 w.head-whole
+head_there rest w = (not_ltb_iff (length rest) head_length).0 w.head_whole
 
 body-there : (rest : List ℕ) → Whole rest → head_length + length_of_body (tag rest) ≤ length rest
 unfolding body_cut
@@ -89,7 +89,7 @@ again (t ∷ a ∷ []) small w = absurd (omega (arith, head_there (t ∷ a ∷ [
 again (t ∷ a ∷ b ∷ bs) small w =
     let rest = t ∷ a ∷ b ∷ bs in
     let three : head_length + length_of_body t ≡ suc (suc (suc (length_of_body t))) = omega arith in
-    let stated : little_endian (a ∷ b ∷ []) ≡ length_of_body t = (not_wrong_iff rest).0 w.length-right in
+    let stated : little_endian (a ∷ b ∷ []) ≡ length_of_body t = (not_wrong_iff rest).0 w.length_right in
     let taken : length (take (length_of_body t) bs) ≡ length_of_body t = length-take-le (length_of_body t) bs (omega (arith, body-there rest w)) in
     let low = low-written 2 (a ∷ b ∷ []) refl (two (small 1 (omega arith)) (small 2 (omega arith))) in
     let said : low_bytes 2 (length (take (length_of_body t) bs)) ≡ a ∷ b ∷ [] = rw (taken, ← stated) low in
@@ -118,7 +118,7 @@ first_accepted_iff file = Iff.trans (first_field_reads file).accepted (
   ),
   λ a.
       let some : ¬ T (eqb (length file) 0) = λ e. let none = (eqb_iff (length file) 0).0 e in absurd (omega (arith, head_there file a.0)) in
-      (some, (a.0.head-whole, ((not_not_iff (eqb (tag file) 1)).1 ((eqb_iff (tag file) 1).1 a.1), (a.0.length-right, (a.0.body-whole, tt))))),
+      (some, (a.0.head_whole, ((not_not_iff (eqb (tag file) 1)).1 ((eqb_iff (tag file) 1).1 a.1), (a.0.length_right, (a.0.body-whole, tt))))),
 )
 
 pub next_accepted_iff : (card : Card) (rest : List ℕ) (t : ℕ) → tag rest ≡ t
@@ -127,5 +127,5 @@ pub next_accepted_iff : (card : Card) (rest : List ℕ) (t : ℕ) → tag rest �
     × (¬ T (eqb t 3 && too_many_regions (suc (length card.masks)))))
 next_accepted_iff card rest t e = Iff.trans (next_field_reads card rest).accepted (rw e (
   λ h. (record { head_whole = h.0; length_right = h.1.1.1.1.0; body-whole = h.1.1.1.1.1.0 }, h.1.0, h.1.1.0, h.1.1.1.0),
-  λ a. (a.0.head-whole, (a.1, (a.2, (a.3, (a.0.length-right, (a.0.body-whole, tt)))))),
+  λ a. (a.0.head_whole, (a.1, (a.2, (a.3, (a.0.length_right, (a.0.body-whole, tt)))))),
 ))

@@ -342,11 +342,11 @@ pub bare_within : (is : List ℕ) (cs : List Circle) (factor : Float) (masks : L
     → WithinLimits cs factor masks areas
 bare_within is cs factor masks areas w =
     record {
-      few_circles = rw (length-inked is cs) at w.few-circles;
+      few_circles = rw (length-inked is cs) at w.few_circles;
       paired = w.paired;
-      few_regions = w.few-regions;
+      few_regions = w.few_regions;
       centres = λ i h. rw (inked_at is cs i h) at (w.centres i (rw (length-inked is cs) h));
       radii = λ i h. rw (inked_at is cs i h) at (w.radii i (rw (length-inked is cs) h));
-      masks_rise = w.masks-rise;
+      masks_rise = w.masks_rise;
       factor-inside = w.factor-inside;
     }

@@ -32,7 +32,7 @@ pub record Bridged (n : ℕ) (R : ℕ → ℕ → Type 0) (tol : Float) (r : Reg
 bridged_map : {n : ℕ} {R S : ℕ → ℕ → Type 0} {tol : Float} {r : Region} {i j k l : ℕ}
     → ((a : ℕ) → a < n → R i a → S k a) → ((b : ℕ) → b < n → R b j → S b l) → Bridged n R tol r i j → Bridged n S tol r k l
 bridged_map f g c =
-    record { a = c.a; b = c.b; a_below = c.a-below; b-below = c.b-below; both = c.both; near = f c.a c.a-below c.near; far = g c.b c.b-below c.far }
+    record { a = c.a; b = c.b; a_below = c.a_below; b-below = c.b-below; both = c.both; near = f c.a c.a_below c.near; far = g c.b c.b-below c.far }
 
 pub share_append : (tol : Float) (rs ss : List Region) (i j : ℕ) → share tol (rs ++ ss) i j ≡ share tol rs i j || share tol ss i j
 unfolding share
@@ -76,14 +76,14 @@ module _ (n : ℕ) (tol : Float) (rs : List Region) (r : Region) where
   joined i j k (inl p) (inr q) = inr (bridged_map (λ a ha. closure_joins n old i j a p) (λ b hb t. t) q)
   joined i j k (inr p) (inl q) = inr (bridged_map (λ a ha t. t) (λ b hb t. closure_joins n old b j k t q) p)
   joined i j k (inr p) (inr q) =
-      inr (record { a = p.a; b = q.b; a_below = p.a-below; b-below = q.b-below; both = (p.both.0, p.both.1, q.both.2); near = p.near; far = q.far })
+      inr (record { a = p.a; b = q.b; a_below = p.a_below; b-below = q.b-below; both = (p.both.0, p.both.1, q.both.2); near = p.near; far = q.far })
 
   kept : (i j : ℕ) → Old i j → New i j
   kept = closure_grows n old new (λ i j hi hj h. (linked_one_more tol rs r i j).1 (inl h))
 
   bridged : (i j : ℕ) → Bridged n Old tol r i j → New i j
   bridged i j c =
-      let across : New c.a c.b = closure_links n new c.a c.b c.a-below c.b-below ((linked_one_more tol rs r c.a c.b).1 (inr c.both)) in
+      let across : New c.a c.b = closure_links n new c.a c.b c.a_below c.b-below ((linked_one_more tol rs r c.a c.b).1 (inr c.both)) in
       closure_joins n new i c.a j (kept i c.a c.near) (closure_joins n new c.a c.b j across (kept c.b j c.far))
 
   pub one_more-region : (i j : ℕ) → New i j ↔ (Old i j ⊎ Bridged n Old tol r i j)

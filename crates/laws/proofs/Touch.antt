@@ -82,7 +82,7 @@ module _ (cs : List Circle) (ps : List Point) (out : List ℕ) (z : (touched cs 
       )
 
   answered : (touched cs ps out).answers ≡ map (touch_mask cs) ps ++ drop (length ps) out
-  answered = ap (λ (t : Touched). t.answers) ((touch_answers cs ps out).on-acceptance accepted)
+  answered = ap (λ (t : Touched). t.answers) ((touch_answers cs ps out).on_acceptance accepted)
 
   long : length (map (touch_mask cs) ps) ≡ length ps
   long = length-map ps (touch_mask cs)
@@ -122,7 +122,7 @@ module _ (cs : List Circle) (ps : List Point) (out : List ℕ) (z : (touched cs 
 
   says-yes : (i j : ℕ) → i < length ps → j < length cs → T (contains_point (circle cs j) (point_in ps i)) ↔ (contains_point_answer (circle cs j) (point_in ps i) ≡ given true)
   says-yes i j hi hj =
-      let is = (contains_point-answers (circle cs j) (point_in ps i)).on-acceptance (pair-accepted i j hi hj) in
+      let is = (contains_point-answers (circle cs j) (point_in ps i)).on_acceptance (pair-accepted i j hi hj) in
       (λ t. is ∙ ap given (is_true _ t), λ e. yes_of (sym is ∙ e))
 
   one-accepted : (i : ℕ) → i < length ps → touch_refusal cs (point_in ps i ∷ []) 1 1 ≡ 0
@@ -141,7 +141,7 @@ module _ (cs : List Circle) (ps : List Point) (out : List ℕ) (z : (touched cs 
 
   pub batch_as_singly : Singly cs ps out
   batch_as_singly = record {
-    alone = λ i h a. (touch_answers cs (point_in ps i ∷ []) (a ∷ [])).on-acceptance (one-accepted i h) ∙ rw (answer_is i h);
+    alone = λ i h a. (touch_answers cs (point_in ps i ∷ []) (a ∷ [])).on_acceptance (one-accepted i h) ∙ rw (answer_is i h);
     exactly = λ i h j. rw (answer_is i h) (Iff.trans (touch_bit cs (point_in ps i) j) (
       λ t. (t.0, (says-yes i j h t.0).0 t.1),
       λ t. (t.0, (says-yes i j h t.0).1 t.1),

@@ -71,7 +71,7 @@ module _ (n : ℕ) (xs ys rs : List Float) (is : List ℕ) (container : Rectangl
       is_placed : ◌≡◌ {A = Placed} (record { refusal = number; container = container }) (placed_of (front_contained n xs ys rs is container))
       is_placed = by_many n (λ t. rw (e, t)) (λ t.
           let is : number ≡ container_refusal cs container = e ∙ rw t in
-          rw (t, (container-answers cs container).at-refusal (λ z. h (is ∙ z)), is))
+          rw (t, (container-answers cs container).at_refusal (λ z. h (is ∙ z)), is))
 
   -- ---- an acceptance
   module _ (room : n ≤ max_circles) (h : container_refusal cs container ≡ 0) where
@@ -87,5 +87,5 @@ module _ (n : ℕ) (xs ys rs : List Float) (is : List ℕ) (container : Rectangl
     pub settled-accepted : (xs' ys' : List Float) → SettledFront xs ys rs n container xs' ys' → SettledAt xs ys rs is n container (record { refusal = 0; container = placed container }) xs' ys'
     unfolding front_contained circle_cap settled placed
     settled-accepted xs' ys' e =
-        let whole : front_contained n xs ys rs is container ≡ settled container cs = rw (is_false (too_many n) ((not_too_many_iff n).1 room)) ((container-answers cs container).on-acceptance h) in
+        let whole : front_contained n xs ys rs is container ≡ settled container cs = rw (is_false (too_many n) ((not_too_many_iff n).1 room)) ((container-answers cs container).on_acceptance h) in
         record { placed = rw whole; long = λ z. e.0; circles = λ z. ap (inked (take n is)) e.1 ∙ sym (settled_carries container (take n is) bare) ∙ rw whole }

@@ -94,7 +94,7 @@ module _ (n : ℕ) (xs ys rs : List Float) (is : List ℕ) (factor : Float) (mas
   refused-result : front_number n xs ys rs is factor masks areas proportion ≢ 0 → (refused_layout (front_number n xs ys rs is factor masks areas proportion) []).result ≡ (front_layout n xs ys rs is factor masks areas proportion).result
   unfolding front_number front_layout refused_layout
   refused-result h =
-      by_many n (λ e. rw e) (λ e. let some : layout_refusal cs factor masks areas proportion ≢ 0 = rw e at h in rw (e, (layout-answers cs factor masks areas proportion).at-refusal some))
+      by_many n (λ e. rw e) (λ e. let some : layout_refusal cs factor masks areas proportion ≢ 0 = rw e at h in rw (e, (layout-answers cs factor masks areas proportion).at_refusal some))
 
   pub laid_refused : (r : Result) (number : ℕ) → number ≡ front_number n xs ys rs is factor masks areas proportion → number ≢ 0 → result_of r ≡ (refused_layout number []).result → Laid xs ys rs is n factor masks areas proportion r xs ys
   unfolding refused_layout
@@ -109,7 +109,7 @@ module _ (n : ℕ) (xs ys rs : List Float) (is : List ℕ) (factor : Float) (mas
   module _ (room : n ≤ max_circles) (h : layout_refusal cs factor masks areas proportion ≡ 0) where
     whole : front_layout n xs ys rs is factor masks areas proportion ≡ arranged proportion cs factor (regions masks areas)
     unfolding front_layout circle_cap
-    whole = rw (is_false (too_many n) ((not_too_many_iff n).1 room)) ((layout-answers cs factor masks areas proportion).on-acceptance h)
+    whole = rw (is_false (too_many n) ((not_too_many_iff n).1 room)) ((layout-answers cs factor masks areas proportion).on_acceptance h)
 
     pub laid_accepted : AreDoubles bare factor → fits binary64 proportion ≡ true → (r : Result) (xs₁ ys₁ : List Float) → length xs₁ ≡ n → length ys₁ ≡ n
         → result_of r ≡ (arranged proportion bare factor (regions masks areas)).result → circles_of xs₁ ys₁ (take n rs) ≡ (arranged proportion bare factor (regions masks areas)).circles
@@ -120,7 +120,7 @@ module _ (n : ℕ) (xs ys rs : List Float) (is : List ℕ) (factor : Float) (mas
         let result : result_of r ≡ (arranged proportion cs factor rest).result = same ∙ sym (ap (λ (l : Layout). l.result) carried) in
         let again : front n (xs₁ ++ drop (n - 0) xs) (ys₁ ++ drop (n - 0) ys) rs is ≡ (arranged proportion cs factor rest).circles =
         rw (take_at xs₁ (drop (n - 0) xs) n long-x, take_at ys₁ (drop (n - 0) ys) n long-y, shows) (sym (ap (λ (l : Layout). l.circles) carried)) in
-        let all = (layout-answers cs factor masks areas proportion).on-acceptance h in
+        let all = (layout-answers cs factor masks areas proportion).on_acceptance h in
         let kept : Promises bound cs rest (arranged proportion cs factor rest).result (arranged proportion cs factor rest).circles =
         subst (λ (l : Layout). Promises bound cs rest l.result l.circles) all
         (unfold Demand3 in layout-promises cs factor masks areas proportion (inked-doubles (take n is) bare factor doubles) (rw fit tt) h) in

@@ -18,6 +18,6 @@ unfolding refused_layout
 layout-length cs factor masks areas proportion =
     let answers = layout-answers cs factor masks areas proportion in
     elim (ℕ_discrete (layout_refusal cs factor masks areas proportion) 0) [
-      | yes z ↦ rw (answers.on-acceptance z) (arranged-length proportion cs factor (regions masks areas))
-      | no z ↦ rw (answers.at-refusal z)
+      | yes z ↦ rw (answers.on_acceptance z) (arranged-length proportion cs factor (regions masks areas))
+      | no z ↦ rw (answers.at_refusal z)
     ]

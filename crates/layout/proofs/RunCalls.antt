@@ -40,26 +40,26 @@ layout_answering : (factor : Float) (masks : List ℕ) (areas : List Float) (pro
 unfolding front_to_back refused_layout
 layout_answering factor masks areas proportion = record {
   many = λ cs h. rw ((layout_reads cs factor masks areas proportion).runs, h);
-  stays = λ cs h. rw ((layout-answers cs factor masks areas proportion).at-refusal h);
+  stays = λ cs h. rw ((layout-answers cs factor masks areas proportion).at_refusal h);
 }
 
 container_answering : (container : Rectangle) → Answering (λ cs. container_refusal cs container) (λ cs. (contained cs container).circles)
 unfolding front_to_back
 container_answering container = record {
   many = λ cs h. rw ((container_reads cs container).runs, h);
-  stays = λ cs h. rw ((container-answers cs container).at-refusal h);
+  stays = λ cs h. rw ((container-answers cs container).at_refusal h);
 }
 
 many-result : (factor : Float) (masks : List ℕ) (areas : List Float) (proportion : Float) (cs : List Circle) → too_many (length cs) ≡ true → (layout cs factor masks areas proportion).result ≡ (refused_layout 1 []).result
 unfolding refused_layout
 many-result factor masks areas proportion cs h =
     let one = (layout_answering factor masks areas proportion).many cs h in
-    rw ((layout-answers cs factor masks areas proportion).at-refusal (is_refusal _ one), one)
+    rw ((layout-answers cs factor masks areas proportion).at_refusal (is_refusal _ one), one)
 
 many-placed : (container : Rectangle) (cs : List Circle) → too_many (length cs) ≡ true → placed_of (contained cs container) ≡ record { refusal = 1; container = container }
 many-placed container cs h =
     let one = (container_answering container).many cs h in
-    rw ((container-answers cs container).at-refusal (is_refusal _ one), one)
+    rw ((container-answers cs container).at_refusal (is_refusal _ one), one)
 
 -- ---- a run and the arrays that it was split into
 module _ (cs : List Circle) (zs : List Float) (ws : List ℕ) where

@@ -61,8 +61,8 @@ module _ (xs ys rs : List Float) (factor : Float) (masks : List ℕ) (areas : Li
   pub accepted-regions : regions_refusal (length xs) masks areas ≡ 0
   accepted-regions =
       (regions_reads (length xs) masks areas).accepted.1 (
-        (not_too_many_iff (length xs)).1 (rw (length_shown xs ys rs) at h.few-circles),
-        ((not_unequal_iff masks areas).1 h.paired, ((not_too_many_regions_iff (length masks)).1 h.few-regions, ((not_not_iff (rising masks)).1 h.masks-rise, tt))),
+        (not_too_many_iff (length xs)).1 (rw (length_shown xs ys rs) at h.few_circles),
+        ((not_unequal_iff masks areas).1 h.paired, ((not_too_many_regions_iff (length masks)).1 h.few_regions, ((not_not_iff (rising masks)).1 h.masks_rise, tt))),
       )
 
   -- ---- the clusters
@@ -74,7 +74,7 @@ module _ (xs ys rs : List Float) (factor : Float) (masks : List ℕ) (areas : Li
 
   module _ (few : length xs ≤ max_circles) (tol : Float) (t : tol ≡ tolerance regs) (a : Grouping) (e : a ≡ area_grouping (length xs) masks areas tol) where
     grouped-whole : a ≡ record { refusal = 0; count = g.count; numbers = filled circle_cap 0 g.numbers }
-    grouped-whole = e ∙ rw t ((area_grouping-answers (length xs) masks areas (tolerance regs)).on-acceptance accepted-regions)
+    grouped-whole = e ∙ rw t ((area_grouping-answers (length xs) masks areas (tolerance regs)).on_acceptance accepted-regions)
 
     pub count_is : a.count ≡ g.count
     count_is = ap (λ (b : Grouping). b.count) grouped-whole

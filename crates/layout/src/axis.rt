@@ -9,7 +9,7 @@ ghost use Rattle.layout.specs.Shown.{CircleLists, Become};
 
 use shapes::extremes::{maximum, minimum};
 
-#[derive(Drop)]
+#[derive(Clone, Copy)]
 pub(crate) struct Range {
     pub(crate) low: f64,
     pub(crate) high: f64,

@@ -18,7 +18,7 @@ use shapes::rectangle::Rectangle;
 
 // A refusal's number or 0, and the container and the circles: as they were given where the call is refused.
 #[repr(C)]
-#[derive(Drop)]
+#[derive(Clone, Copy)]
 pub struct InContainer {
     pub refusal: u8,
     pub container: Rectangle,
@@ -27,7 +27,7 @@ pub struct InContainer {
 
 // The same without the circles, for a lent run: they are rewritten there.
 #[repr(C)]
-#[derive(Drop)]
+#[derive(Clone, Copy)]
 pub struct Placed {
     pub refusal: u8,
     pub container: Rectangle,

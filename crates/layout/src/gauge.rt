@@ -22,7 +22,7 @@ use crate::axis::{Range, middle, nothing, widened};
 use geometry::lengths::{absolute, root_or_nan};
 use shapes::extremes::maximum;
 
-#[derive(Drop)]
+#[derive(Clone, Copy)]
 struct Turn {
     cosine: f64,
     sine: f64,

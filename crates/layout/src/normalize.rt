@@ -33,7 +33,7 @@ use shapes::circle::Circle;
 
 // Document 01's result: a refusal's number or 0, the clusters, the mask of the moved circles, and the padding. What is not used is 0.
 #[repr(C)]
-#[derive(Drop)]
+#[derive(Clone, Copy)]
 pub struct Result {
     pub refusal: u8,
     pub count: usize,
@@ -44,7 +44,7 @@ pub struct Result {
 
 // The result, and the circles: as they were given where the call is refused.
 #[repr(C)]
-#[derive(Drop)]
+#[derive(Clone, Copy)]
 pub struct Layout {
     pub result: Result,
     pub circles: [Circle; MAX_CIRCLES],

@@ -43,7 +43,7 @@ use shapes::extremes::maximum;
 use shapes::point::Point;
 
 // Where a child is moved to, if it is.
-#[derive(Drop)]
+#[derive(Clone, Copy)]
 enum Repositioned {
     To(Circle),
     Stays,

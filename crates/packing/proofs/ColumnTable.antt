@@ -60,10 +60,10 @@ golden-alone p P t =
 -- ---- the answer
 module _ (k : ℕ) (proportion : Float) where
   pub columns-refused : (r : ℕ) → r ≡ columns_refusal k proportion → r ≢ 0 → refused r ≡ columns_answer k proportion
-  columns-refused r e h = ap refused e ∙ sym ((columns-answers k proportion).at-refusal (λ z. h (e ∙ z)))
+  columns-refused r e h = ap refused e ∙ sym ((columns-answers k proportion).at_refusal (λ z. h (e ∙ z)))
 
   pub columns-given : columns_refusal k proportion ≡ 0 → given (columns k proportion) ≡ columns_answer k proportion
-  columns-given h = sym ((columns-answers k proportion).on-acceptance h)
+  columns-given h = sym ((columns-answers k proportion).on_acceptance h)
 
   pub columns_asked : columns_refusal k proportion ≡ 0 → (k ≤ max_circles) × T (proportion_ok proportion)
   unfolding circle_cap

@@ -86,7 +86,7 @@ module _ (n : ℕ) (ws hs : List Float) (pad proportion : Float) where
       let yes = eq-eqb r 0 none in
       let same-x : xs' ≡ overwritten (centre_xs boxes) xs = x ∙ rw yes in
       let same-y : ys' ≡ overwritten (centre_ys boxes) ys = y ∙ rw yes in
-      ap (λ (l : List Rectangle). record { refusal = 0; rectangles = l }) (e ∙ rw (same-x, same-y, boxes-back xs ys)) ∙ sym (sided-answers.on-acceptance (sym number ∙ none))
+      ap (λ (l : List Rectangle). record { refusal = 0; rectangles = l }) (e ∙ rw (same-x, same-y, boxes-back xs ys)) ∙ sym (sided-answers.on_acceptance (sym number ∙ none))
 
 -- ---- only the sides matter
 by_lists : {k : ℕ} {ws hs : List Float} (l : List Rectangle) → Sides k ws hs l → any bad_side l ≡ any (λ x. not (side_ok x)) (tab k (at ws)) || any (λ x. not (side_ok x)) (tab k (at hs))

@@ -1,5 +1,7 @@
 // Boxes in a grid whose width and height are near a proportion given with the call: the largest first, row by row.
 // The sides of the boxes stand in two lists, and so do the places that their centres come to.
+#![tactic(auto)]
+
 ghost use Rattle.std.specs.Prelude.{◌≡◌, ◌<◌, ◌≤◌, ◌&&◌, ◌||◌, T, length, nat_lt};
 ghost use Rattle.std.specs.Float.{nan};
 ghost use Rattle.std.specs.Float.Ieee.{eq};
@@ -38,7 +40,7 @@ use shapes::rectangle::Rectangle;
 use std::num::truncating_f64_to_u64;
 
 // A number of columns, or a refusal's number.
-#[derive(Drop)]
+#[derive(Clone, Copy)]
 pub enum ColumnCount {
     Of(usize),
     Refused(u8),
@@ -46,7 +48,7 @@ pub enum ColumnCount {
 
 // A refusal's number or 0, and the boxes in the order given. What is not used is 0.
 #[repr(C)]
-#[derive(Drop)]
+#[derive(Clone, Copy)]
 pub struct Packed {
     pub refusal: u8,
     pub rectangles: [Rectangle; MAX_CIRCLES],

@@ -1,5 +1,7 @@
 // Replays records of inputs and of the answers that the patched Rust gave, and prints for each kind how many agree.
 // A record is a kind byte, a two-byte length and a body: the input, then the answer.
+#![tactic(auto)]
+
 mod boxes;
 mod cards;
 mod charges;
@@ -23,7 +25,7 @@ const FIELDS: usize = 14;
 // More records than any list has.
 const BUDGET: u64 = 100000000;
 
-#[derive(Drop)]
+#[derive(Clone, Copy)]
 struct Tally {
     seen: [u64; 16],
     agreed: [u64; 16],

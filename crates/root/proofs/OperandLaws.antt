@@ -31,7 +31,7 @@ abbrev BesideNan : Float → Float → Type 0
 BesideNan r x = (r ≡ hypot binary64 nan x) × (r ≡ hypot binary64 x nan)
 
 infinite_beside : (s : Bool) → BesideNan (inf false) (inf s)
-infinite_beside s = (sym ((special_hypots binary64).infinity-second nan s), sym ((special_hypots binary64).infinity-first s nan))
+infinite_beside s = (sym ((special_hypots binary64).infinity_second nan s), sym ((special_hypots binary64).infinity-first s nan))
 
 pub plus_infinity_beside : (x : Float) → eq x (inf false) ≡ true → BesideNan x x
 unfolding eq
@@ -49,10 +49,10 @@ minus_infinity_beside (fin s m e) h = absurd (false≢true h)
 
 pub others_beside : (x : Float) → eq x (inf false) ≡ false → eq x (inf true) ≡ false → BesideNan nan x
 unfolding eq
-others_beside nan h k = let r = sym (special_hypots binary64).nan-both in (r, r)
+others_beside nan h k = let r = sym (special_hypots binary64).nan_both in (r, r)
 others_beside (inf true) h k = absurd (false≢true (sym k))
 others_beside (inf false) h k = absurd (false≢true (sym h))
-others_beside (fin s m e) h k = (sym ((special_hypots binary64).nan-first s m e), sym ((special_hypots binary64).nan-second s m e))
+others_beside (fin s m e) h k = (sym ((special_hypots binary64).nan-first s m e), sym ((special_hypots binary64).nan_second s m e))
 
 -- ---- a number by its pattern without the sign
 abbrev size_of : Float → ℕ
@@ -101,7 +101,7 @@ module _ (x y : Float) (f : fits binary64 x ≡ true) (g : fits binary64 y ≡ t
   pub larger_infinite : a ≡ infinity → of_bits binary64 infinity ≡ hypot binary64 x y
   larger_infinite h = elim w.same [
     | inl e ↦ let i = size_infinite x f n.0 (sym e.0 ∙ h) in infinity_is ∙ sym (ap (λ (z : Float). hypot binary64 z y) i.1 ∙ (special_hypots binary64).infinity-first i.0 y)
-    | inr e ↦ let i = size_infinite y g n.1 (sym e.0 ∙ h) in infinity_is ∙ sym (ap (λ (z : Float). hypot binary64 x z) i.1 ∙ (special_hypots binary64).infinity-second x i.0)
+    | inr e ↦ let i = size_infinite y g n.1 (sym e.0 ∙ h) in infinity_is ∙ sym (ap (λ (z : Float). hypot binary64 x z) i.1 ∙ (special_hypots binary64).infinity_second x i.0)
   ]
 
   squares_are : a < infinity → hypot binary64 x y ≡ nearest_root binary64 (pattern_units a * pattern_units a + pattern_units b * pattern_units b) 1074

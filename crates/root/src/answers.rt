@@ -1,5 +1,5 @@
 // What the root answers: a value, or a refusal's number.
-#[derive(Drop)]
+#[derive(Clone, Copy)]
 pub enum Root {
     Of(f64),
     Refused(u8),

@@ -1,4 +1,6 @@
 // The square root of an f64, correctly rounded, from integers alone: the f64 nearest the exact root, proved for every f64. The hypot of two stands beside it.
+#![tactic(auto)]
+
 ghost use Rattle.std.specs.Prelude.{◌≡◌, ◌<◌};
 ghost use Rattle.std.specs.Float.{binary64};
 ghost use Rattle.std.specs.Float.Ieee.{of_bits};

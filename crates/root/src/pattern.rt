@@ -10,14 +10,14 @@ pub const INFINITY: u64 = 9218868437227405312;
 pub const SIGN: u64 = 9223372036854775808;
 
 // digits * 2^exponent is the value, as a multiple of 2^-1126. There are 53 digits.
-#[derive(Drop)]
+#[derive(Clone, Copy)]
 pub struct Scaled {
     pub digits: u64,
     pub exponent: u64,
 }
 
 // digits * 2^54 * 4^half is the value as a multiple of 2^-2148, so that its root has the unit 2^-1074. There are 53 or 54 digits.
-#[derive(Drop)]
+#[derive(Clone, Copy)]
 pub struct Parts {
     pub digits: u64,
     pub half: u64,
@@ -25,7 +25,7 @@ pub struct Parts {
 
 // digits * 2^exponent is the value in units of 2^-1074, as the pattern has it: the exponent is 0 below the smallest normal number, and there are 53 digits from
 // there on.
-#[derive(Drop)]
+#[derive(Clone, Copy)]
 pub struct Units {
     pub digits: u64,
     pub exponent: u64,

@@ -10,14 +10,14 @@ const WORD: u64 = 18014398509481984;
 const QUARTER: u64 = 4503599627370496;
 
 // hi * 2^54 + lo, where lo may be more than a word.
-#[derive(Drop)]
+#[derive(Clone, Copy)]
 pub struct Wide {
     pub hi: u64,
     pub lo: u64,
 }
 
 // hi * 2^54 + lo is the whole part of the sum over 4^high, and hi has 53 or 54 digits.
-#[derive(Drop)]
+#[derive(Clone, Copy)]
 pub struct Summed {
     pub hi: u64,
     pub lo: u64,

@@ -7,7 +7,7 @@ pub const HALF: u64 = 134217728;
 // 2^32: the digits that a first estimate does not need.
 const LOWER: u64 = 4294967296;
 
-#[derive(Drop)]
+#[derive(Clone, Copy)]
 pub struct WholeRoot {
     pub root: u64,
     pub left: u64,

@@ -3,7 +3,7 @@ ghost use Rattle.std.specs.Prelude.{◌+◌, ◌≤◌, length};
 
 pub const LINE: usize = 34;
 
-#[derive(Drop)]
+#[derive(Clone, Copy)]
 pub enum Pattern {
     Is(u64),
     Malformed,

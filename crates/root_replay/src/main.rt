@@ -1,4 +1,6 @@
 // Replays a stored list of numbers and their roots, which the machine's square root gave, and prints how many of its lines agree.
+#![tactic(auto)]
+
 mod list;
 
 ghost use Rattle.std.specs.Prelude.{◌+◌, ◌/◌, ◌≤◌, length};

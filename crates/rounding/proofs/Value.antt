@@ -17,10 +17,14 @@ use Rattle.rounding.specs.Value.{mag, signed, negative, val, Fin}
 -- ---- from the kit's words to these
 pub mag_of : (f : Format) (x : Float) (s : Bool) (g : ℕ) → HasValue x s g (2 ^ low f) → mag f x ≡ g
 unfolding mag
+mag_of f nan s g h = elim h [ ]
+mag_of f (inf _) s g h = elim h [ ]
 mag_of f (fin t m e) s g h = ap (λ (x : ℕ). x / down e) h.1 ∙ mul-div_cancel g (down_pos e)
 
 pub sign_of : (x : Float) (s : Bool) (g c : ℕ) → HasValue x s g c → negative x ≡ s
 unfolding negative
+sign_of nan s g c h = elim h [ ]
+sign_of (inf _) s g c h = elim h [ ]
 sign_of (fin t m e) s g c h = h.0
 
 pub val_of : (f : Format) (x : Float) (s : Bool) (g : ℕ) → HasValue x s g (2 ^ low f) → val f x ≡ signed s g

@@ -3,21 +3,21 @@ use shapes::bounds::Bounds;
 use shapes::circle::Circle;
 
 #[repr(C)]
-#[derive(Drop)]
+#[derive(Clone, Copy)]
 pub struct Length {
     pub refusal: u8,
     pub value: f64,
 }
 
 #[repr(C)]
-#[derive(Drop)]
+#[derive(Clone, Copy)]
 pub struct Test {
     pub refusal: u8,
     pub value: bool,
 }
 
 #[repr(C)]
-#[derive(Drop)]
+#[derive(Clone, Copy)]
 pub struct Count {
     pub refusal: u8,
     pub value: usize,
@@ -25,7 +25,7 @@ pub struct Count {
 
 // What two boxes share. Nothing is refused here: where they share nothing, the box is 0.
 #[repr(C)]
-#[derive(Drop)]
+#[derive(Clone, Copy)]
 pub struct Shared {
     pub empty: bool,
     pub bounds: Bounds,
@@ -33,7 +33,7 @@ pub struct Shared {
 
 // A field of a card file: the factor of tag 1, the circle of tag 2, the mask and the area of tag 3. The body is a part of the file.
 #[repr(C)]
-#[derive(Drop)]
+#[derive(Clone, Copy)]
 pub struct FieldRead {
     pub refusal: u8,
     pub tag: u8,

@@ -1,1 +1,2 @@
 // Document 01 as definitions, with its sample cards. No functions.
+#![tactic(auto)]

@@ -7,7 +7,7 @@ use crate::extremes::{maximum, minimum};
 use crate::point::Point;
 
 #[repr(C)]
-#[derive(Drop)]
+#[derive(Clone, Copy)]
 pub struct Bounds {
     pub x_min: f64,
     pub x_max: f64,
@@ -16,14 +16,14 @@ pub struct Bounds {
 }
 
 #[repr(C)]
-#[derive(Drop)]
+#[derive(Clone, Copy)]
 pub struct Corners {
     pub bottom_left: Point,
     pub top_right: Point,
 }
 
 // What two boxes share: a box, or nothing.
-#[derive(Drop)]
+#[derive(Clone, Copy)]
 pub enum Overlap {
     Box(Bounds),
     Empty,

@@ -9,7 +9,7 @@ use crate::extremes::maximum;
 use crate::point::Point;
 
 #[repr(C)]
-#[derive(Drop)]
+#[derive(Clone, Copy)]
 pub struct Circle {
     pub center: Point,
     pub radius: f64,

@@ -7,7 +7,7 @@ use crate::bounds::Bounds;
 use crate::point::Point;
 
 #[repr(C)]
-#[derive(Drop)]
+#[derive(Clone, Copy)]
 pub struct Rectangle {
     pub center: Point,
     pub width: f64,

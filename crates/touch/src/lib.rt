@@ -1,4 +1,6 @@
 // Touch points in a batch: the circles under each point.
+#![tactic(auto)]
+
 ghost use Rattle.std.specs.Prelude.{◌≡◌, ◌≤◌, length, take};
 ghost use Rattle.shapes.specs.Records.{point_at};
 ghost use Rattle.scope.specs.Touch.{touch_mask, touched};

@@ -26,7 +26,7 @@ returns c =
     let s = c.before.before in
     let a = s.before.before.args in
     let number = s.number_of_lem.ensures ∙ number-says _ _ s.before.of-circles.ensures ∙ front-number a.n a.xs.now a.ys.now a.radii.now a.inks.now in
-    c.refused.ensures ∙ ap refused_grouping number ∙ sym ((counted-answers _ _).at-refusal (λ z. c.before.if1.true (number ∙ z)))
+    c.refused.ensures ∙ ap refused_grouping number ∙ sym ((counted-answers _ _).at_refusal (λ z. c.before.if1.true (number ∙ z)))
 
 in-front-requires : tie.Need-in-front-requires
 unfolding circle_cap
@@ -43,7 +43,7 @@ returns-2 c =
     let a = s.before.before.args in
     let number = s.number_of_lem.ensures ∙ number-says _ _ s.before.of-circles.ensures ∙ front-number a.n a.xs.now a.ys.now a.radii.now a.inks.now in
     c.in-front.ensures ∙ sym (ap (grouping 0) (plain_clusters_blind (take a.n a.inks.now) (bare_front a.n a.xs.now a.ys.now a.radii.now)))
-    ∙ sym ((counted-answers _ _).on-acceptance (sym number ∙ c.before.before.before.before.if1.false))
+    ∙ sym ((counted-answers _ _).on_acceptance (sym number ∙ c.before.before.before.before.if1.false))
 
 pub clusters_at_spec : {M : Type 1} → statement M
 clusters_at_spec =

@@ -28,7 +28,7 @@ unfolding regions_refusal
 returns c =
     let s = c.before.before in
     let number = s.number_of_lem.ensures ∙ number-says _ _ (joined _ _ ((1, _) ∷ []) ((13, _) ∷ (2, _) ∷ (5, _) ∷ []) s.before.before.of-count.ensures s.before.of-regions.ensures) in
-    let refused = (area_grouping-answers _ _ _ _).at-refusal (λ z. c.before.if1.true (number ∙ z)) in
+    let refused = (area_grouping-answers _ _ _ _).at_refusal (λ z. c.before.if1.true (number ∙ z)) in
     let answer = c.refused.ensures ∙ ap refused_grouping number ∙ sym refused in
     (answer, λ z. area_chains _ _ _ _ _ answer z)
 

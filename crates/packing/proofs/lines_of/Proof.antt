@@ -21,7 +21,7 @@ some-columns c =
     let s = c.before.before.before in
     let a = s.before.before.before.before in
     let p = proportion_good a.args.proportion a.well-formed.1.0.1 a.requires.3 in
-    omega (arith, (grid_fits_64 (length a.args.areas.now) (omega arith) a.requires.0 a.args.proportion p).some-column, s.columns_of.ensures)
+    omega (arith, (grid_fits_64 (length a.args.areas.now) (omega arith) a.requires.0 a.args.proportion p).some_column, s.columns_of.ensures)
 
 columns-of-requires : tie.Need-columns-of-requires invariant-loop decreases-loop
 columns-of-requires c κs = let p = c.before.before.before.requires in (p.0, p.3)

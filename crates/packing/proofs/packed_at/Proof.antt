@@ -14,7 +14,7 @@ refused-requires c κs = search rules
 returns : tie.Need-returns
 returns c =
     let number = c.before.before.pack-sides.ensures.0 in
-    c.refused.ensures ∙ ap refused_packing number ∙ sym ((sided-answers _ _ _ _ _).at-refusal (λ z. c.before.if1.true (number ∙ z)))
+    c.refused.ensures ∙ ap refused_packing number ∙ sym ((sided-answers _ _ _ _ _).at_refusal (λ z. c.before.if1.true (number ∙ z)))
 
 boxes-at-requires : tie.Need-boxes-at-requires
 boxes-at-requires c κs = let s = c.before.before.before in accepted_few _ _ _ _ _ (sym s.pack-sides.ensures.0 ∙ c.before.before.if1.false)

@@ -24,7 +24,7 @@ returns c =
     let S = c.before.before.before.before.before.before.before.before.before in
     let sides = c.before.before.before.before.before.sides-of.ensures in
     let m = c.before.before.before.before.before.before.before.before.room.ensures in
-    c.packed-at.ensures ∙ first_by_sides _ _ _ _ _ _ S.well-formed.0.1.0.1 (rw m at sides.0) (rw m at sides.1)
+    c.packed_at.ensures ∙ first_by_sides _ _ _ _ _ _ S.well-formed.0.1.0.1 (rw m at sides.0) (rw m at sides.1)
 
 pub skyline_pack_by_value_spec : {M : Type 1} → statement M
 skyline_pack_by_value_spec =

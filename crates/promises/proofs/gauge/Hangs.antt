@@ -32,8 +32,8 @@ pub record NotBeyond (s : ℕ) (P : ℕ → Type 0) (x : ℕ → Z) (i : ℕ) : 
 -- so with the ends of their range
 pub not_past_range : {P : ℕ → Type 0} {x : ℕ → Z} {s i : ℕ} → NotBeyond s P x i → (r : Range P x x) → nat 2 ⊗ x i ≼ r.lo ⊕ r.hi ⊕ nat s
 not_past_range {x = x} {s = s} {i = i} h r =
-    let a = r.lo-taken in
-    go (x i) (x a.0) (x h.upper) r.lo r.hi (h.most a.0 a.1) a.2 (r.hi-bounds h.upper h.upper_in)
+    let a = r.lo_taken in
+    go (x i) (x a.0) (x h.upper) r.lo r.hi (h.most a.0 a.1) a.2 (r.hi_bounds h.upper h.upper_in)
   where
     go : (u v w lo hi : Z) → nat 2 ⊗ u ≼ v ⊕ w ⊕ nat s → v ≼ lo → w ≼ hi → nat 2 ⊗ u ≼ lo ⊕ hi ⊕ nat s
     go u v w lo hi h k l = omega arith
@@ -55,11 +55,11 @@ module _ {P : ℕ → Type 0} (x x' : ℕ → Z) (same : (k : ℕ) → P k → x
 
 pub hung_same : {P : ℕ → Type 0} {x y x' y' : ℕ → Z} {s v i j : ℕ} → ((k : ℕ) → P k → x' k ≡ x k) → ((k : ℕ) → P k → y' k ≡ y k) → Hung s v P x y i j → Hung s v P x' y' i j
 hung_same {x = x} {y = y} {x' = x'} {y' = y'} {i = i} {j = j} same-x same-y h = record {
-  first_in = h.first-in;
-  second_in = h.second-in;
-  across = not_beyond_same x x' same-x h.first-in h.across;
-  up = not_beyond_same y y' same-y h.first-in h.up;
-  level = rw (same-y i h.first-in, same-y j h.second-in) h.level;
+  first_in = h.first_in;
+  second_in = h.second_in;
+  across = not_beyond_same x x' same-x h.first_in h.across;
+  up = not_beyond_same y y' same-y h.first_in h.up;
+  level = rw (same-y i h.first_in, same-y j h.second_in) h.level;
 }
 
 -- ---- a shift
@@ -81,11 +81,11 @@ module _ {P : ℕ → Type 0} (x x' : ℕ → Z) (K : Z) (e : ℕ) (near : (k : 
 pub hung_shifted : {P : ℕ → Type 0} {x y x' y' : ℕ → Z} {s v i j : ℕ} (K L : Z) (e : ℕ) → ((k : ℕ) → P k → Near (x' k) (x k ⊕ K) e) → ((k : ℕ) → P k → Near (y' k) (y k ⊕ L) e)
     → Hung s v P x y i j → Hung (s + 4 * e) (v + 2 * e) P x' y' i j
 hung_shifted {x = x} {y = y} {x' = x'} {y' = y'} K L e near-x near-y h = record {
-  first_in = h.first-in;
-  second_in = h.second-in;
-  across = not_beyond_shifted x x' K e near-x h.first-in h.across;
-  up = not_beyond_shifted y y' L e near-y h.first-in h.up;
-  level = difference_shifted y y' L e near-y h.first-in h.second-in h.level;
+  first_in = h.first_in;
+  second_in = h.second_in;
+  across = not_beyond_shifted x x' K e near-x h.first_in h.across;
+  up = not_beyond_shifted y y' L e near-y h.first_in h.up;
+  level = difference_shifted y y' L e near-y h.first_in h.second_in h.level;
 }
 
 -- ---- the mirror, on one axis

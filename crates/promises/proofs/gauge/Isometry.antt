@@ -169,7 +169,7 @@ module _ (L h δ B : ℕ) (L-pos : 0 < L) (fine : 8 * δ ≤ L * L) (wide : 12 *
       let m = L * L in
       let r = compared in
       exceeds t (square p ⊕ square q) (square a ⊕ square b) (size p * size p + size q * size q) (size a * size a + size b * size b) (two-squares p q) (two-squares a b)
-      (λ g e. growth_small m h (size a * size a + size b * size b) r.stretch r.slip (mul-pos L-pos L-pos) r.stretch-small r.slip-small g t l
+      (λ g e. growth_small m h (size a * size a + size b * size b) r.stretch r.slip (mul-pos L-pos L-pos) r.stretch_small r.slip_small g t l
       (omega (arith, r.above, ap (λ (z : ℕ). m * z) e, mul-le-mul_left m (mul-le-mul l l))))
 
   turn_shrinks_little : (t : ℕ) → 8 * h ≤ t → Exceeds≤ t (square a ⊕ square b) (square p ⊕ square q)
@@ -177,7 +177,7 @@ module _ (L h δ B : ℕ) (L-pos : 0 < L) (fine : 8 * δ ≤ L * L) (wide : 12 *
       let m = L * L in
       let r = compared in
       exceeds t (square a ⊕ square b) (square p ⊕ square q) (size a * size a + size b * size b) (size p * size p + size q * size q) (two-squares a b) (two-squares p q)
-      (λ g e. loss_small m h (size a * size a + size b * size b) r.stretch r.slip (mul-pos L-pos L-pos) r.stretch-small r.slip-small g t (size p * size p + size q * size q) l e
+      (λ g e. loss_small m h (size a * size a + size b * size b) r.stretch r.slip (mul-pos L-pos L-pos) r.stretch_small r.slip_small g t (size p * size p + size q * size q) l e
       (omega (arith, r.below, ap (λ (z : ℕ). m * z) e)) r.below)
 
   pub turn_keeps_distance : (t : ℕ) → 8 * h ≤ t → Alike t (square a ⊕ square b) (square p ⊕ square q)

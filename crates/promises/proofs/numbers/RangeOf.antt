@@ -82,12 +82,12 @@ range_of_lem member n lowerEnd upperEnd k p =
 -- and only one: a promise about some ends of a range is one about all
 pub ends_unique : {P : ℕ → Type 0} {lowerEnd upperEnd : ℕ → Z} → (r s : Range P lowerEnd upperEnd) → (r.lo ≈ s.lo) × (r.hi ≈ s.hi)
 ends_unique {lowerEnd = f} {upperEnd = g} r s =
-    let a = r.lo-taken in
-    let b = s.lo-taken in
-    let c = r.hi-taken in
-    let d = s.hi-taken in (
-      same_low r.lo s.lo (f a.0) (f b.0) a.2 b.2 (r.lo-bounds b.0 b.1) (s.lo-bounds a.0 a.1),
-      same_high r.hi s.hi (g c.0) (g d.0) c.2 d.2 (r.hi-bounds d.0 d.1) (s.hi-bounds c.0 c.1),
+    let a = r.lo_taken in
+    let b = s.lo_taken in
+    let c = r.hi_taken in
+    let d = s.hi_taken in (
+      same_low r.lo s.lo (f a.0) (f b.0) a.2 b.2 (r.lo_bounds b.0 b.1) (s.lo_bounds a.0 a.1),
+      same_high r.hi s.hi (g c.0) (g d.0) c.2 d.2 (r.hi_bounds d.0 d.1) (s.hi_bounds c.0 c.1),
     )
   where
     same_low : (lo lo' x x' : Z) → x ≼ lo → x' ≼ lo' → lo ≼ x' → lo' ≼ x → lo ≈ lo'
@@ -101,8 +101,8 @@ abbrev pub range_for : {P Q : ℕ → Type 0} {lowerEnd upperEnd : ℕ → Z} �
 range_for to from r = record {
   lo = r.lo;
   hi = r.hi;
-  lo_bounds = λ k q. r.lo-bounds k (from k q);
-  lo_taken = (r.lo-taken.0, to r.lo-taken.0 r.lo-taken.1, r.lo-taken.2);
-  hi_bounds = λ k q. r.hi-bounds k (from k q);
-  hi_taken = (r.hi-taken.0, to r.hi-taken.0 r.hi-taken.1, r.hi-taken.2);
+  lo_bounds = λ k q. r.lo_bounds k (from k q);
+  lo_taken = (r.lo_taken.0, to r.lo_taken.0 r.lo_taken.1, r.lo_taken.2);
+  hi_bounds = λ k q. r.hi_bounds k (from k q);
+  hi_taken = (r.hi_taken.0, to r.hi_taken.0 r.hi_taken.1, r.hi_taken.2);
 }

@@ -43,7 +43,7 @@ module _ (cs : List Circle) (rs : List Region) where
   after = (offset cs rs).circles
 
   parent_below : {i : ℕ} (m : MovedInside cs rs after i) → m.parent < length cs
-  parent_below {i} m = (parent_is (length cs) rs i m.parent m.is-parent).below
+  parent_below {i} m = (parent_is (length cs) rs i m.parent m.is_parent_lem).below
 
   moved : (i : ℕ) → T (bit (offset cs rs).mask i) → MovedInside cs rs after i
   moved = (offset_moves cs rs).moved
@@ -79,10 +79,10 @@ module _ (cs : List Circle) (rs : List Region) where
     offset-reach i h t =
         let m = moved i t in
         let p = m.parent in
-        let s = parent_stands cs rs (length cs) (offset cs rs) (offset_moves cs rs) i p m.is-parent in
+        let s = parent_stands cs rs (length cs) (offset cs rs) (offset_moves cs rs) i p m.is_parent_lem in
         record {
           parent = p;
-          is_parent_lem = m.is-parent;
+          is_parent_lem = m.is_parent_lem;
           below = parent_below m;
           stands = s;
           reach = rw s (moved-reach (circle cs p) (circle cs i) (circle after i) (sound p (parent_below m)) (sound i h) m.inside);

@@ -93,8 +93,8 @@ module _ (parent child : Circle) (fx : Fin binary64 parent.center.x) (fy : Fin b
       let sg = distance_not_negative p q in
       let tg = first_part_finite binary64 g r R sg (fin-finite binary64 r fr) (fin-finite binary64 R fR) t in
       let d = distance-finite p q tg in
-      let qx = fin_both binary64 q.x d.q-x tx in
-      let qy = fin_both binary64 q.y d.q-y ty in
+      let qx = fin_both binary64 q.x d.q_x tx in
+      let qy = fin_both binary64 q.y d.q_y ty in
       let sum = sum_below g r R d.fin fr fR sg sr sR wR t in
       let covers = distance-covers p q fx fy qx qy tg (distance-small (mag binary64 g) (mag binary64 r) (mag binary64 R) (pow2 28) (pow2 80) sum wR) in
       record {

@@ -82,7 +82,7 @@ module _ (cs : List Circle) (rs : List Region) where
 
   -- a parent's bit is clear
   pub parent_stands : (m : ℕ) (s : Moved) → MovedBelow m s → (i p : ℕ) → parent_of (length cs) rs i ≡ some p → circle s.circles p ≡ circle cs p
-  parent_stands m s h i p e = h.stands p (λ t. let q = h.moved p t in parent_is_no_child (length cs) rs i p e q.parent q.is-parent)
+  parent_stands m s h i p e = h.stands p (λ t. let q = h.moved p t in parent_is_no_child (length cs) rs i p e q.parent q.is_parent_lem)
 
   module _ (m : ℕ) (s : Moved) (h : MovedBelow m s) (below : m < length cs) where
     clear : ¬ T (bit s.mask m)
@@ -106,7 +106,7 @@ module _ (cs : List Circle) (rs : List Region) where
         new = record { parent = p; is_parent_lem = e; inside = rw here (rw (parent_stands m s h m p e, h.stands m clear) at r) }
 
         old : (i : ℕ) → (i ≡ m → ⊥) → MovedInside s.circles i → MovedInside (set s.circles m c) i
-        old i q v = record { parent = v.parent; is_parent_lem = v.is-parent; inside = rw (get_or-set_other s.circles m i c nowhere q) v.inside }
+        old i q v = record { parent = v.parent; is_parent_lem = v.is_parent_lem; inside = rw (get_or-set_other s.circles m i c nowhere q) v.inside }
 
     replaced-below : (p : ℕ) → parent_of (length cs) rs m ≡ some p → (o : Option Circle) → repositioned s.circles p m ≡ o → MovedBelow (suc m) (replaced m s o)
     unfolding replaced

@@ -52,7 +52,7 @@ module _ (tol : Float) (rs : List Region) (i : ℕ) where
     apart : i ≡ q → ⊥
 
   further : {n q : ℕ} → Partner n q → Partner (suc n) q
-  further p = record { place = p.place; place-below = (let h = p.place-below in omega arith); holds-i = p.holds-i; holds_q = p.holds-q; not_small = p.not-small; apart = p.apart }
+  further p = record { place = p.place; place-below = (let h = p.place-below in omega arith); holds-i = p.holds-i; holds_q = p.holds_q; not_small = p.not_small; apart = p.apart }
 
   partner_to : (n q : ℕ) → T (bit (bits_to n) q) → Partner n q
   unfolding gather
@@ -128,7 +128,7 @@ module _ (n : ℕ) (rs : List Region) (i p : ℕ) (e : parent_of n rs i ≡ some
   parent_is_no_child q k =
       let s = shared_region in
       let back = parent_is n rs p q k in
-      let t = to_partner (tolerance rs) rs p (length rs) i s.place s.place-below s.holds-q s.holds-i s.not-small (λ h. s.apart (sym h)) in
+      let t = to_partner (tolerance rs) rs p (length rs) i s.place s.place-below s.holds_q s.holds-i s.not_small (λ h. s.apart (sym h)) in
       let same = power_has_one_bit q i (rw back.partner t) in
       smaller_one_way rs i p (parent_is n rs i p e).less (subst (λ (z : ℕ). T (smaller rs p z)) same back.less)
 
@@ -141,7 +141,7 @@ module _ (n : ℕ) (rs : List Region) (i p : ℕ) (e : parent_of n rs i ≡ some
 
       go : (x : Float) → (region rs shared_region.place).area ≡ x → T (finite x)
       go nan h = rw h at (from_total (rw h (λ t. unfold le lt eq in t)))
-      go (inf true) h = absurd (shared_region.not-small (rw h (minus_infinity_at_most rs)))
+      go (inf true) h = absurd (shared_region.not_small (rw h (minus_infinity_at_most rs)))
       go (inf false) h = rw h at (from_total (rw h (λ t. unfold le lt eq in t)))
       go (fin s m d) h = tt
 
@@ -153,9 +153,9 @@ module _ (n : ℕ) (rs : List Region) (i p : ℕ) (e : parent_of n rs i ≡ some
       record {
         first = r;
         others = [];
-        good = ((member rs s.place s.place-below, (and_iff (finite r.area) (not (r.area ≤ᶠ tolerance rs))).1 (shared_area_finite, (not_iff (r.area ≤ᶠ tolerance rs)).1 s.not-small)), tt);
+        good = ((member rs s.place s.place-below, (and_iff (finite r.area) (not (r.area ≤ᶠ tolerance rs))).1 (shared_area_finite, (not_iff (r.area ≤ᶠ tolerance rs)).1 s.not_small)), tt);
         starts = s.holds-i;
-        ends = s.holds-q;
+        ends = s.holds_q;
         joined = tt;
       }
     where

@@ -102,7 +102,7 @@ module _ {h i o s n lines B R D t : ℕ} (b : Budget h i o s n lines B R D t) {c
   padding_bounded = sizes.padding-bounded s n b.ts rects factor few_rects fewer_rects (λ a l. area_is_upto a (below a l)) hf
 
   pub padding_not_negative : nat 0 ≼ units factor → nat 0 ≼ units reported
-  padding_not_negative = sizes.padding-not-negative s n b.ts rects factor few_rects fewer_rects (λ a l. area_is_upto a (below a l)) hf
+  padding_not_negative = sizes.padding_not_negative s n b.ts rects factor few_rects fewer_rects (λ a l. area_is_upto a (below a l)) hf
 
   -- ---- the whole step
   module _ (low : nat 0 ≼ units factor) (proportion : Float) (grid : 0 < count → GridFits lines count (columns count proportion)) where
@@ -111,9 +111,9 @@ module _ {h i o s n lines B R D t : ℕ} (b : Budget h i o s n lines B R D t) {c
         let g : GridFits lines count (columns_of proportion rects) = subst (λ (k : ℕ). GridFits lines count (columns k proportion)) (sym (boxes-length count numbers cs)) (grid (omega arith)) in
         record {
           room = record { th = b.th; ti = b.ti; finer = b.finer; lengths = b.lengths; positions = b.positions };
-          some_column = g.some-column;
-          columns_fit = mul-le-mul_right (line_width h s n + pow2 i) g.few-columns;
-          rows_fit = mul-le-mul_right (line_width h s n + pow2 i) g.few-rows;
+          some_column = g.some_column;
+          columns_fit = mul-le-mul_right (line_width h s n + pow2 i) g.few_columns;
+          rows_fit = mul-le-mul_right (line_width h s n + pow2 i) g.few_rows;
           ends_fit = omega arith;
           circles = C.circles;
           numbered = C.numbered;
@@ -153,7 +153,7 @@ module _ {h i o s n lines B R D t : ℕ} (b : Budget h i o s n lines B R D t) {c
     packed_and_centred = elim (dec_lt count 2) [
       | yes one ↦ few_arranged proportion count numbers cs reported centring_room (omega (arith, b.slack)) one unpacked_inside C.numbered
           (grid_room h i (line_width h s n) (columns count proportion)) (grid_room h i (line_width h s n) (rows count (columns count proportion)))
-          (unpacked_span x_axis (cluster_spans_x C) (columns count proportion) (λ some. (grid some).some-column) one)
-          (unpacked_span y_axis (cluster_spans_y C) (rows count (columns count proportion)) (λ some. omega (arith, row_below count (columns count proportion) 0 (grid some).some-column some)) one)
+          (unpacked_span x_axis (cluster_spans_x C) (columns count proportion) (λ some. (grid some).some_column) one)
+          (unpacked_span y_axis (cluster_spans_y C) (rows count (columns count proportion)) (λ some. omega (arith, row_below count (columns count proportion) 0 (grid some).some_column some)) one)
       | no more ↦ let many : 2 ≤ count = omega arith in many-arranged proportion count numbers cs reported (packable many) centring_room b.slack many
     ]

@@ -44,31 +44,31 @@ module _ {i o B R X : ℕ} (room : CentringRoom i o B R X) {axis : Point → Flo
 
   module _ (box : BoxOf axis (length cs) out) where
     abbrev a : ℕ
-    a = box.lo-taken.0
+    a = box.lo_taken.0
 
     abbrev b : ℕ
-    b = box.hi-taken.0
+    b = box.hi_taken.0
 
     a_below : a < length cs
-    a_below = box.lo-taken.1
+    a_below = box.lo_taken.1
 
     b-below : b < length cs
-    b-below = box.hi-taken.1
+    b-below = box.hi_taken.1
 
     low_end-near : Near box.lo (units lo ⊕ units (neg (middle lo hi))) (pow2 i + pow2 o)
     low_end-near =
-        let c = low_of_member i room.ti B R X room.ends-fit room.positions A.centres A.radii A.ends a a_below tt in
+        let c = low_of_member i room.ti B R X room.ends_fit room.positions A.centres A.radii A.ends a a_below tt in
         between box.lo (units lo) (units (neg (middle lo hi))) (units (at axis cs a) ⊖ units (circle cs a).radius) (units (at axis cs c.0) ⊖ units (circle cs c.0).radius) (lower axis (circle out a)) (lower axis (circle out c.0))
-        (lower-near a a_below) (lower-near c.0 c.1) box.lo-taken.2 (box.lo-bounds c.0 c.1) (box-holds i room.ti B R X room.ends-fit room.positions A.centres A.radii A.ends a a_below tt).left c.3
+        (lower-near a a_below) (lower-near c.0 c.1) box.lo_taken.2 (box.lo_bounds c.0 c.1) (box-holds i room.ti B R X room.ends_fit room.positions A.centres A.radii A.ends a a_below tt).left c.3
       where
         between : (l lo k x y x' y' : Z) → Near x' (x ⊕ k) (pow2 o) → Near y' (y ⊕ k) (pow2 o) → x' ≼ l → l ≼ y' → lo ≼ x ⊕ nat (pow2 i) → Near lo y (pow2 i) → Near l (lo ⊕ k) (pow2 i + pow2 o)
         between l lo k x y x' y' h1 h2 h3 h4 h5 h6 = omega arith
 
     high_end-near : Near box.hi (units hi ⊕ units (neg (middle lo hi))) (pow2 i + pow2 o)
     high_end-near =
-        let c = high_of_member i room.ti B R X room.ends-fit room.positions A.centres A.radii A.ends b b-below tt in
+        let c = high_of_member i room.ti B R X room.ends_fit room.positions A.centres A.radii A.ends b b-below tt in
         between box.hi (units hi) (units (neg (middle lo hi))) (units (at axis cs b) ⊕ units (circle cs b).radius) (units (at axis cs c.0) ⊕ units (circle cs c.0).radius) (upper axis (circle out b)) (upper axis (circle out c.0))
-        (upper-near b b-below) (upper-near c.0 c.1) box.hi-taken.2 (box.hi-bounds c.0 c.1) (box-holds i room.ti B R X room.ends-fit room.positions A.centres A.radii A.ends b b-below tt).right c.3
+        (upper-near b b-below) (upper-near c.0 c.1) box.hi_taken.2 (box.hi_bounds c.0 c.1) (box-holds i room.ti B R X room.ends_fit room.positions A.centres A.radii A.ends b b-below tt).right c.3
       where
         between : (g hi k x y x' y' : Z) → Near x' (x ⊕ k) (pow2 o) → Near y' (y ⊕ k) (pow2 o) → g ≼ x' → y' ≼ g → x ≼ hi ⊕ nat (pow2 i) → Near hi y (pow2 i) → Near g (hi ⊕ k) (pow2 i + pow2 o)
         between g hi k x y x' y' h1 h2 h3 h4 h5 h6 = omega arith

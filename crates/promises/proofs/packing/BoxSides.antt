@@ -60,7 +60,7 @@ module _ (member : ℕ → Bool) (cs : List Circle) where
 -- ---- each end is that of a member and bounds those of all members, as they are rounded
 module _ {axis : Point → Float} {cs : List Circle} {member : ℕ → Bool} {lo hi : Float} (ends : EndsOf axis cs member lo hi) (j : ℕ) (l : j < length cs) (m : T (member j)) where
   pub low_is_least : ((a : ℕ) → a < length cs → T (member a) → Fin binary64 (low_at axis cs a)) → Extreme Down member (length cs) (low_at axis cs) lo
-  low_is_least finite = rw ends.low-is (minimum_extreme member (length cs) (low_at axis cs) finite j l m)
+  low_is_least finite = rw ends.low_is (minimum_extreme member (length cs) (low_at axis cs) finite j l m)
 
   pub high_is_greatest : ((a : ℕ) → a < length cs → T (member a) → Fin binary64 (high_at axis cs a)) → Extreme Up member (length cs) (high_at axis cs) hi
   high_is_greatest finite = rw ends.high_is (maximum_extreme member (length cs) (high_at axis cs) finite j l m)

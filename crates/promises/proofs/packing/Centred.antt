@@ -49,10 +49,10 @@ pub record OnAxis (B R : ℕ) (axis : Point → Float) (cs : List Circle) (lo hi
 
 module _ {i o B R X : ℕ} (room : CentringRoom i o B R X) {axis : Point → Float} {cs : List Circle} {lo hi : Float} (A : OnAxis B R axis cs lo hi) (j : ℕ) (l : j < length cs) where
   pub low_end_bounded : Bounded X lo
-  low_end_bounded = low_bounded i room.ti B R X room.ends-fit room.positions A.centres A.radii A.ends j l tt
+  low_end_bounded = low_bounded i room.ti B R X room.ends_fit room.positions A.centres A.radii A.ends j l tt
 
   pub high_end_bounded : Bounded X hi
-  high_end_bounded = high_bounded i room.ti B R X room.ends-fit room.positions A.centres A.radii A.ends j l tt
+  high_end_bounded = high_bounded i room.ti B R X room.ends_fit room.positions A.centres A.radii A.ends j l tt
 
   twice : 2 * X ≤ pow2 (54 + o)
   twice = omega (arith, room.answers)
@@ -67,4 +67,4 @@ module _ {i o B R X : ℕ} (room : CentringRoom i o B R X) {axis : Point → Flo
   centring_shift = record { fin = centring_bounded.fin; room = sum (units (at axis cs j)) (units (neg (middle lo hi))) (A.centres j l).within centring_bounded.within; is = refl }
     where
       sum : (x c : Z) → Within x B → Within c (X + pow2 o) → Within (x ⊕ c) (pow2 (54 + o))
-      sum x c h k = omega (arith, room.ends-fit, room.answers)
+      sum x c h k = omega (arith, room.ends_fit, room.answers)

@@ -48,10 +48,10 @@ module _ {B R D u : ℕ} {count : ℕ} {numbers : List ℕ} {cs : List Circle} (
       room x r y q h1 h2 h3 = omega arith
 
   pub cluster_spans_x : ClusterSpans (D + 2 * R) x_axis numbers cs
-  cluster_spans_x = spans_of x_axis C.spread-x
+  cluster_spans_x = spans_of x_axis C.spread_x
 
   pub cluster_spans_y : ClusterSpans (D + 2 * R) y_axis numbers cs
-  cluster_spans_y = spans_of y_axis C.spread-y
+  cluster_spans_y = spans_of y_axis C.spread_y
 
 module _ (h : ℕ) (t : T (leb h 1029)) (B R D S : ℕ) (twice : 2 * (B + R + pow2 h) ≤ pow2 (54 + h)) (side-fits : D + 2 * R + 3 * pow2 h ≤ S) {count : ℕ} {numbers : List ℕ} {cs : List Circle}
     (C : Clustered B R D (pow2 h) count numbers cs) where

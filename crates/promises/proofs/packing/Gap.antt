@@ -93,19 +93,19 @@ module _ {h i Q M X : ℕ} (room : Room h i Q M X) where
     old = middle lo hi
 
     new_is : Fin binary64 new × Near (units new ⊕ units new) (units cell ⊕ units cell ⊕ units b) (4 * pow2 i + 3 * pow2 h)
-    new_is = centred_is cell b s c.cell-bounded c.width-bounded c.side-bounded
+    new_is = centred_is cell b s c.cell_bounded c.width_bounded c.side_bounded
 
     old_is : Fin binary64 old × Near (units old ⊕ units old) (units lo ⊕ units hi) (2 * pow2 h)
-    old_is = middle_is h room.th X (omega (arith, room.lengths)) lo hi c.low-bounded c.high-bounded
+    old_is = middle_is h room.th X (omega (arith, room.lengths)) lo hi c.low_bounded c.high_bounded
 
     new_within : Within (units new) (Q + M + 4 * pow2 i)
-    new_within = half-within (units cell) (units b) (units new) c.cell-bounded.within c.width-bounded.within new_is.1
+    new_within = half-within (units cell) (units b) (units new) c.cell_bounded.within c.width_bounded.within new_is.1
       where
         half-within : (c b n : Z) → Within c Q → Within b M → Near (n ⊕ n) (c ⊕ c ⊕ b) (4 * pow2 i + 3 * pow2 h) → Within n (Q + M + 4 * pow2 i)
         half-within c b n h1 h2 h3 = omega (arith, room.finer)
 
     old_within : Within (units old) (X + pow2 i)
-    old_within = half-within (units lo) (units hi) (units old) c.low-bounded.within c.high-bounded.within old_is.1
+    old_within = half-within (units lo) (units hi) (units old) c.low_bounded.within c.high_bounded.within old_is.1
       where
         half-within : (lo hi m : Z) → Within lo X → Within hi X → Near (m ⊕ m) (lo ⊕ hi) (2 * pow2 h) → Within m (X + pow2 i)
         half-within lo hi m h1 h2 h3 = omega (arith, room.finer)
@@ -119,14 +119,14 @@ module _ {h i Q M X : ℕ} (room : Room h i Q M X) where
         in_range n m h1 h2 = omega (arith, room.positions)
 
     pub packed-shift : ShiftedBy i (shift_to cell b s lo hi) x (add binary64 x (shift_to cell b s lo hi))
-    packed-shift = record { fin = shift_is.0; room = in_range (units new) (units old) (units (sub binary64 new old)) (units x) new_within old_within shift_is.1 c.centre-bounded.within; is = refl }
+    packed-shift = record { fin = shift_is.0; room = in_range (units new) (units old) (units (sub binary64 new old)) (units x) new_within old_within shift_is.1 c.centre_bounded.within; is = refl }
       where
         in_range : (n m d x : Z) → Within n (Q + M + 4 * pow2 i) → Within m (X + pow2 i) → Near d (n ⊖ m) (pow2 i) → Within x X → Within (x ⊕ d) (pow2 (54 + i))
         in_range n m d x h1 h2 h3 h4 = omega (arith, room.positions)
 
     module _ (y : Float) (moved : ShiftedBy i (shift_to cell b s lo hi) x y) where
       moved_is : IsSum i (shift_to cell b s lo hi) x y
-      moved_is = shifted_is_sum i room.ti c.centre-bounded.fin moved
+      moved_is = shifted_is_sum i room.ti c.centre_bounded.fin moved
 
       moved-near : Near (units y) (units x ⊕ units new ⊖ units old) (2 * pow2 i)
       moved-near = joined (units x) (units new) (units old) (units (sub binary64 new old)) (units y) shift_is.1 moved_is.near
@@ -135,7 +135,7 @@ module _ {h i Q M X : ℕ} (room : Room h i Q M X) where
           joined x n m d y h k = omega arith
 
       pub packed_bounded : Bounded (packed_reach i Q M X) y
-      packed_bounded = record { fin = moved_is.fin; within = sum (units x) (units new) (units old) (units y) c.centre-bounded.within new_within old_within moved-near }
+      packed_bounded = record { fin = moved_is.fin; within = sum (units x) (units new) (units old) (units y) c.centre_bounded.within new_within old_within moved-near }
         where
           sum : (x n m y : Z) → Within x X → Within n (Q + M + 4 * pow2 i) → Within m (X + pow2 i) → Near y (x ⊕ n ⊖ m) (2 * pow2 i) → Within y (packed_reach i Q M X)
           sum x n m y h1 h2 h3 h4 = omega arith

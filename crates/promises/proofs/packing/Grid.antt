@@ -76,12 +76,12 @@ module _ {h i Q X S P B R lines : ℕ} {axis : Point → Float} {cs : List Circl
         cell_bounded = start_bounded a m;
         width_bounded = bounded (width_upto (line a));
         side_bounded = wider (omega arith) (A.sides a m);
-        low_bounded = low_bounded h th B R X A.ends-fit once A.centres A.radii (A.ends a m) j l (eqb_refl a);
-        high_bounded = high_bounded h th B R X A.ends-fit once A.centres A.radii (A.ends a m) j l (eqb_refl a);
-        centre_bounded = wider (omega (arith, A.ends-fit)) (A.centres j l);
-        side = subst (λ (s : Float). Near (units s) (units (hi a) ⊖ units (lo a)) (pow2 h)) (sym (A.side-is a m)) (side_near h th B R X A.ends-fit once A.centres A.radii (A.ends a m) j l (eqb_refl a) twice);
+        low_bounded = low_bounded h th B R X A.ends_fit once A.centres A.radii (A.ends a m) j l (eqb_refl a);
+        high_bounded = high_bounded h th B R X A.ends_fit once A.centres A.radii (A.ends a m) j l (eqb_refl a);
+        centre_bounded = wider (omega (arith, A.ends_fit)) (A.centres j l);
+        side = subst (λ (s : Float). Near (units s) (units (hi a) ⊖ units (lo a)) (pow2 h)) (sym (A.side_is a m)) (side_near h th B R X A.ends_fit once A.centres A.radii (A.ends a m) j l (eqb_refl a) twice);
         wide = breadth-holds h th k line side pad S P sum_fits A.sides A.padding a m;
-        holds = box-holds h th B R X A.ends-fit once A.centres A.radii (A.ends a m) j l (eqb_refl a);
+        holds = box-holds h th B R X A.ends_fit once A.centres A.radii (A.ends a m) j l (eqb_refl a);
       }
 
   pub cluster_shift_lem : (j : ℕ) → j < length cs → ShiftedBy i (cluster_shift k line side pad lo hi (number j)) (at axis cs j) (add binary64 (at axis cs j) (cluster_shift k line side pad lo hi (number j)))

@@ -73,8 +73,8 @@ module _ {h i Q X S P B R : ℕ} {proportion : Float} {count : ℕ} {numbers : L
   x_axis_lem : OneAxis h i Q X S P B R (columns_of proportion rects) x_axis cs number (length rects) (column proportion rects) (width_at rects) (left numbers cs) (right numbers cs) pad
   x_axis_lem = record {
     room = A.room;
-    lines_fit = A.columns-fit;
-    ends_fit = A.ends-fit;
+    lines_fit = A.columns_fit;
+    ends_fit = A.ends_fit;
     centres = λ j l. (A.circles j l).x;
     radii = λ j l. (A.circles j l).radius;
     numbered = λ j l. listed (number j) (A.numbered j l);
@@ -82,14 +82,14 @@ module _ {h i Q X S P B R : ℕ} {proportion : Float} {count : ℕ} {numbers : L
     side_is = λ a l. width_is count numbers cs a (below a l);
     sides = λ a l. A.widths a (below a l);
     padding = A.padding;
-    inside = λ a l. column_below (columns_of proportion rects) (get_or (places rects) a 0) A.some-column;
+    inside = λ a l. column_below (columns_of proportion rects) (get_or (places rects) a 0) A.some_column;
   }
 
   y_axis_lem : OneAxis h i Q X S P B R (rows (length rects) (columns_of proportion rects)) y_axis cs number (length rects) (row proportion rects) (height_at rects) (bottom numbers cs) (top numbers cs) pad
   y_axis_lem = record {
     room = A.room;
     lines_fit = subst (λ (k : ℕ). rows k (columns_of proportion rects) * (S + P + pow2 h + pow2 i) ≤ Q) (sym (boxes-length count numbers cs)) A.rows_fit;
-    ends_fit = A.ends-fit;
+    ends_fit = A.ends_fit;
     centres = λ j l. (A.circles j l).y;
     radii = λ j l. (A.circles j l).radius;
     numbered = λ j l. listed (number j) (A.numbered j l);
@@ -97,7 +97,7 @@ module _ {h i Q X S P B R : ℕ} {proportion : Float} {count : ℕ} {numbers : L
     side_is = λ a l. height_is count numbers cs a (below a l);
     sides = λ a l. A.heights a (below a l);
     padding = A.padding;
-    inside = λ a l. row_below (length rects) (columns_of proportion rects) (get_or (places rects) a 0) A.some-column (listed_place_below_count rects finite-areas a l);
+    inside = λ a l. row_below (length rects) (columns_of proportion rects) (get_or (places rects) a 0) A.some_column (listed_place_below_count rects finite-areas a l);
   }
 
   -- ---- the packed circles
@@ -156,9 +156,9 @@ module _ {h i Q X S P B R : ℕ} {proportion : Float} {count : ℕ} {numbers : L
   pub packed_span_x : AllSpan (grid_room h i (S + P + pow2 h) (columns count proportion)) x_axis (length cs) out
   packed_span_x j m l n =
       subst (λ (k : ℕ). Spans (grid_room h i (S + P + pow2 h) (columns k proportion)) x_axis (circle out j) (circle out m)) (boxes-length count numbers cs)
-      (span_with_radii x_axis (grid_room h i (S + P + pow2 h) (columns_of proportion rects)) j m l n (packed-span x_axis_lem (at x_axis out) packed-x A.padding-not-negative j m l n))
+      (span_with_radii x_axis (grid_room h i (S + P + pow2 h) (columns_of proportion rects)) j m l n (packed-span x_axis_lem (at x_axis out) packed-x A.padding_not_negative j m l n))
 
   pub packed_span_y : AllSpan (grid_room h i (S + P + pow2 h) (rows count (columns count proportion))) y_axis (length cs) out
   packed_span_y j m l n =
       subst (λ (k : ℕ). Spans (grid_room h i (S + P + pow2 h) (rows k (columns k proportion))) y_axis (circle out j) (circle out m)) (boxes-length count numbers cs)
-      (span_with_radii y_axis (grid_room h i (S + P + pow2 h) (rows (length rects) (columns_of proportion rects))) j m l n (packed-span y_axis_lem (at y_axis out) packed-y A.padding-not-negative j m l n))
+      (span_with_radii y_axis (grid_room h i (S + P + pow2 h) (rows (length rects) (columns_of proportion rects))) j m l n (packed-span y_axis_lem (at y_axis out) packed-y A.padding_not_negative j m l n))

@@ -215,7 +215,7 @@ module _ (proportion : Float) (count : ℕ) (numbers : List ℕ) (cs : List Circ
       → Arranged i o t (across + 2 * pow2 o) (up + 2 * pow2 o) numbers pad cs returned
   few_arranged {i} {o} {Y} {R} {X} {t} room slack few circles numbered across up spans-x spans-y =
       rw (few_not_packed proportion numbers (boxes count numbers cs) pad cs (rw (boxes-length count numbers cs) few))
-      (packed_and_centred room (bound slack) (unshifted i Y R 0 across up (omega (arith, room.ends-fit, room.positions)) numbers pad cs circles (λ j l. omega (arith, numbered j l)) spans-x spans-y))
+      (packed_and_centred room (bound slack) (unshifted i Y R 0 across up (omega (arith, room.ends_fit, room.positions)) numbers pad cs circles (λ j l. omega (arith, numbered j l)) spans-x spans-y))
     where
       bound : 2 * pow2 o ≤ t → 0 + 2 * pow2 o ≤ t
       bound h = omega arith

@@ -49,11 +49,11 @@ module _ (e C R w m : ℕ) (te : T (leb e 1029)) (half : w + m ≤ 2 * C) (ends_
   centre_bounded : (j : ℕ) → j < length cs → Bounded C (at axis cs j)
   centre_bounded j l =
       let box = box_of axis (length cs) cs some in
-      let a = box.lo-taken in
-      let b = box.hi-taken in
+      let a = box.lo_taken in
+      let b = box.hi_taken in
       record {
         fin = finite j l;
-        within = half_of (units (at axis cs j)) (units (circle cs j).radius) box.lo box.hi (lower axis (circle cs a.0)) (upper axis (circle cs b.0)) (thick j l) (box.lo-bounds j l) (box.hi-bounds j l) a.2 b.2
+        within = half_of (units (at axis cs j)) (units (circle cs j).radius) box.lo box.hi (lower axis (circle cs a.0)) (upper axis (circle cs b.0)) (thick j l) (box.lo_bounds j l) (box.hi_bounds j l) a.2 b.2
             (spans b.0 a.0 b.1 a.1) (middle box);
       }
     where
@@ -102,18 +102,18 @@ module _ {h i o s n lines R e C line : ℕ} (b : SheetBudget h i o s n lines R e
         (λ j m l n. spans j m (here l) (here n)) (λ box. middle (range_for (λ j l. here l) (λ j l. there l) box)) ends)
 
     across : Raises c (sub binary64 (sheet out).x_max (sheet out).x_min)
-    across = on_axis x_axis c grid.some-column grid.few-columns (λ j l. (A.finite j l).x) A.span-x A.middle-x (x-ends always out)
+    across = on_axis x_axis c grid.some_column grid.few_columns (λ j l. (A.finite j l).x) A.span-x A.middle-x (x-ends always out)
 
     up : Raises (rows count c) (sub binary64 (sheet out).y_max (sheet out).y_min)
-    up = on_axis y_axis (rows count c) (omega (arith, row_below count c 0 grid.some-column counted)) grid.few-rows (λ j l. (A.finite j l).y) A.span-y A.middle-y (y-ends always out)
+    up = on_axis y_axis (rows count c) (omega (arith, row_below count c 0 grid.some_column counted)) grid.few_rows (λ j l. (A.finite j l).y) A.span-y A.middle-y (y-ends always out)
 
     pub sheet-fits : SheetFits lines line out
     unfolding wide tall
     sheet-fits = record {
       columns = c;
       rows = rows count c;
-      few_columns = grid.few-columns;
-      together = omega (arith, rows-filled count c grid.some-column, A.sized);
+      few_columns = grid.few_columns;
+      together = omega (arith, rows-filled count c grid.some_column, A.sized);
       width = across.inside;
       height = up.inside;
       wide_in_columns = across.at_most;
@@ -123,7 +123,7 @@ module _ {h i o s n lines R e C line : ℕ} (b : SheetBudget h i o s n lines R e
 -- ---- so its area: columns and rows are few together
 pub sheet_area_at_most : (most : ℕ) {lines line : ℕ} {out : List Circle} → SheetFits lines line out → length out ≤ most → wide out * tall out ≤ (most + (lines - 1)) * (line * line)
 sheet_area_at_most most {lines} {line} {out} S few =
-    le_trans (mul-le-mul S.wide-in-columns S.tall-in-rows) (cells S.columns S.rows (omega (arith, S.together, S.few-columns)))
+    le_trans (mul-le-mul S.wide_in_columns S.tall_in_rows) (cells S.columns S.rows (omega (arith, S.together, S.few_columns)))
   where
     cells : (c r : ℕ) → c * r ≤ most + (lines - 1) → c * line * (r * line) ≤ (most + (lines - 1)) * (line * line)
     cells c r h = omega (arith, mul-le-mul_right (line * line) h)

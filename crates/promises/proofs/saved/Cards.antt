@@ -58,13 +58,13 @@ module _ (factor : Float) (cs : List Circle) (masks patterns : List ℕ) where
   output_reads_back out typed e =
       let answers = write_card-answers card out in
       let number = sym answers.says ∙ e in
-      rw (answers.on-acceptance number, take-append_seam (file_of card)) (reads_back factor cs masks patterns typed (written_values card out number))
+      rw (answers.on_acceptance number, take-append_seam (file_of card)) (reads_back factor cs masks patterns typed (written_values card out number))
 
   longest : values_refusal card ≡ 0 → length (file_of card) ≤ 40779
   unfolding circle_cap region_cap
   longest accepted =
       let limits = within_limits cs factor masks (map float_of patterns) accepted in
-      omega (arith, file_length factor cs masks patterns (limits.paired ∙ length-map patterns float_of), limits.few-circles, limits.few-regions)
+      omega (arith, file_length factor cs masks patterns (limits.paired ∙ length-map patterns float_of), limits.few_circles, limits.few_regions)
 
   shown_again_lem : AreTyped card → values_refusal card ≡ 0 → card_text (file_of card) ≡ printed (layout cs factor masks (map float_of patterns) golden)
   unfolding input_cap answer_text
@@ -76,7 +76,7 @@ written-again : (file out : List ℕ) (card : Card) → AreBytes file → read_c
 written-again file out card small read room =
     let same = same_bytes file card small read in
     let number = room_serves card out (((card_both_ways file).gives card).0 read).1 (rw same room) in
-    (write_card-answers card out).on-acceptance number ∙ ap (λ bytes. accepted_saving bytes out) same
+    (write_card-answers card out).on_acceptance number ∙ ap (λ bytes. accepted_saving bytes out) same
 
 -- ---- all of it
 

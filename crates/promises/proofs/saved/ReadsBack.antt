@@ -86,10 +86,10 @@ module _ (factor : Float) where
         ap read_file (append_assoc first (circle_fields cs) (region_fields masks patterns))
         ∙ factor-first (first ++ others) (factor_body factor) others starts
         ∙ ap (λ x. fields 0 (started x) others) (factor-read factor typed.doubles.factor)
-        ∙ circles-read [] cs (region_fields masks patterns) circle_typed (omega (arith, limits.few-circles))
+        ∙ circles-read [] cs (region_fields masks patterns) circle_typed (omega (arith, limits.few_circles))
         ∙ regions-read cs [] [] masks patterns (limits.paired ∙ length-map patterns float_of) typed.masks typed.patterns
-        (omega (arith, limits.few-regions))
+        (omega (arith, limits.few_regions))
 
     pub reads_back : values_refusal card ≡ 0 → read_card (file_of card) ≡ given card
     unfolding read_card valued
-    reads_back accepted = ap valued (file_read accepted) ∙ (answer-answers (values_refusal card) card).on-acceptance accepted
+    reads_back accepted = ap valued (file_read accepted) ∙ (answer-answers (values_refusal card) card).on_acceptance accepted

@@ -45,8 +45,8 @@ sheet_fits_64 : {g : Clusters} {cs : List Circle} → Gauged64 g cs → (factor 
 sheet_fits_64 {g} {cs} G factor fit ok proportion P some =
     let counted : 0 < g.count = omega (arith, G.numbering.inside 0 some) in
     sheet-fits sheet_budget64 (proportion_arranged_64 G factor fit ok proportion P) (grid_fits_64 g.count counted (few_clusters G) proportion P) counted G.numbering.few
-    (λ j l. radius_bounded (circle cs j).radius (G.radius-fits j l) (G.radius-ok j l))
-    (λ j l. above (units (circle cs j).radius) (radius_at_least (circle cs j).radius (G.radius-fits j l) (G.radius-ok j l)))
+    (λ j l. radius_bounded (circle cs j).radius (G.radius-fits j l) (G.radius_ok_lem j l))
+    (λ j l. above (units (circle cs j).radius) (radius_at_least (circle cs j).radius (G.radius-fits j l) (G.radius_ok_lem j l)))
   where
     apart : pow2 38 < pow2 40
     apart = unfold pow2 in lit≤ tt
@@ -63,7 +63,7 @@ module _ (cs : List Circle) (factor : Float) (masks : List ℕ) (areas : List Fl
   limits = within_limits cs factor masks areas inside.0
 
   circles_are : (layout cs factor masks areas proportion).circles ≡ (arranged proportion cs factor (regions masks areas)).circles
-  circles_are = ap (λ (l : Layout). l.circles) ((layout-answers cs factor masks areas proportion).on-acceptance accepted)
+  circles_are = ap (λ (l : Layout). l.circles) ((layout-answers cs factor masks areas proportion).on_acceptance accepted)
 
   none_lost : length (layout cs factor masks areas proportion).circles ≡ length cs
   none_lost = ap length circles_are ∙ arranged-length proportion cs factor (regions masks areas)
@@ -74,7 +74,7 @@ module _ (cs : List Circle) (factor : Float) (masks : List ℕ) (areas : List Fl
       (unfold arranged in sheet_fits_64 (accepted_handed_over cs factor masks areas d limits) factor d.factor limits.factor-inside proportion (proportion_is proportion fit inside.1) (rw (gauged-length, offset-length) some))
 
   few_circles : length (layout cs factor masks areas proportion).circles ≤ circle_cap
-  few_circles = rw none_lost limits.few-circles
+  few_circles = rw none_lost limits.few_circles
 
 pub every_sheet_fits : EverySheetFits
 unfolding EverySheetFits area_most

@@ -160,8 +160,8 @@ module _ (cs : List Circle) (rs : List Region) (factor : Float) (sound : (i : �
           chain = λ i j hi hj. same_filled_number_iff_chain n rs (tolerance rs) i j hi hj circle_cap;
           middle = λ some. rw turned-length at (centred_promised {i = 37} {o = 38} tt tt packed bound.near middle_fits_64 (rw turned-length some));
           first = λ i j F. let h = hung result numbered i j F in (
-            not_past_promised n g.numbers result numbered last bound.near (mirror_slack + 4 * (pow2 37 + pow2 38)) first_fits_64 i x_axis h.first-in h.across,
-            not_past_promised n g.numbers result numbered last bound.near (mirror_slack + 4 * (pow2 37 + pow2 38)) first_fits_64 i y_axis h.first-in h.up,
+            not_past_promised n g.numbers result numbered last bound.near (mirror_slack + 4 * (pow2 37 + pow2 38)) first_fits_64 i x_axis h.first_in h.across,
+            not_past_promised n g.numbers result numbered last bound.near (mirror_slack + 4 * (pow2 37 + pow2 38)) first_fits_64 i y_axis h.first_in h.up,
           );
           level = λ i j F. level_wider (units (circle last j).center.y ⊖ units (circle last i).center.y) (hung result numbered i j F).level;
         }
@@ -177,7 +177,7 @@ pub accepted_handed_over : (cs : List Circle) (factor : Float) (masks : List ℕ
     → let rs = regions masks areas in let g = clusters (length cs) rs (tolerance rs) in
     Gauged64 g (gauged g.count g.numbers (offset cs rs).circles)
 accepted_handed_over cs factor masks areas d a =
-    handed_over cs (regions masks areas) factor (accepted_sound cs factor masks areas d a) d.radius a.radii d.factor a.factor-inside a.few-circles
+    handed_over cs (regions masks areas) factor (accepted_sound cs factor masks areas d a) d.radius a.radii d.factor a.factor-inside a.few_circles
 
 -- ---- of an accepted call, whose floats are f64
 pub layout-promises : Demand3
@@ -185,9 +185,9 @@ unfolding Demand3
 layout-promises cs factor masks areas proportion d fit h =
     let accepted = (layout_accepted_iff cs factor masks areas proportion).0 h in
     let a = within_limits cs factor masks areas accepted.0 in
-    let e = (layout-answers cs factor masks areas proportion).on-acceptance h in
+    let e = (layout-answers cs factor masks areas proportion).on_acceptance h in
     subst (λ (l : Layout). Promises bound cs (regions masks areas) l.result l.circles) (sym e)
-    (arranged-promises cs (regions masks areas) factor (accepted_sound cs factor masks areas d a) d.radius a.radii d.factor a.factor-inside a.few-circles
+    (arranged-promises cs (regions masks areas) factor (accepted_sound cs factor masks areas d a) d.radius a.radii d.factor a.factor-inside a.few_circles
     proportion (proportion_is proportion fit accepted.1))
 
 -- ---- clause by clause
@@ -223,7 +223,7 @@ layout-first cs factor masks areas proportion d fit h i j hi hj apart same =
     let p = layout-promises cs factor masks areas proportion d fit h in
     let two = has_first_two (length cs) _ i j hi hj apart same in
     let f = p.first two.0 two.1 two.2 in
-    (two.0, two.1, two.2, two.3, ((f.0.range, omega (arith, f.0.not-past)), (f.1.range, omega (arith, f.1.not-past))))
+    (two.0, two.1, two.2, two.3, ((f.0.range, omega (arith, f.0.not_past)), (f.1.range, omega (arith, f.1.not_past))))
 
 pub layout-level : LevelKept
 unfolding LevelKept Demand3

@@ -36,9 +36,9 @@ neither x y h = ⊎_elim (past x) (past y) h
 -- ---- of one circle: its own ends are those of the box
 off-middle : {t : ℕ} {axis : Point → Float} {cs : List Circle} → nat (2 * t) ≺ lower axis (circle cs 0) ⊕ upper axis (circle cs 0) → Centred t axis 1 cs → ⊥
 off-middle {t} {axis} {cs} far h =
-    let k = h.box.lo-taken in
+    let k = h.box.lo_taken in
     let e : k.0 ≡ 0 = omega (arith, k.1) in
-    go (lower axis (circle cs 0)) (upper axis (circle cs 0)) h.box.lo h.box.hi (rw e at k.2) (h.box.hi-bounds 0 (lit< tt)) h.near far
+    go (lower axis (circle cs 0)) (upper axis (circle cs 0)) h.box.lo h.box.hi (rw e at k.2) (h.box.hi_bounds 0 (lit< tt)) h.near far
   where
     go : (l u lo hi : Z) → l ≼ lo → u ≼ hi → Within (lo ⊕ hi) (2 * t) → nat (2 * t) ≺ l ⊕ u → ⊥
     go l u lo hi a b w far = omega arith
@@ -47,8 +47,8 @@ off-middle {t} {axis} {cs} far h =
 far_side : {t : ℕ} {axis : Point → Float} {result : Result} {cs : List Circle} → number_of result 1 ≡ number_of result 0
     → units (axis (circle cs 1).center) ⊕ nat (2 * t) ≺ units (axis (circle cs 0).center) → NotPast t axis 2 result cs 0 → ⊥
 far_side {t} {axis} {result} {cs} same beyond h =
-    let k = h.range.hi-taken in
-    go (units (axis (circle cs 0).center)) (units (axis (circle cs 1).center)) h.range.lo h.range.hi (h.range.lo-bounds 1 (lit< tt, same)) (upper_end k.0 k.1.0 k.2) h.not-past beyond
+    let k = h.range.hi_taken in
+    go (units (axis (circle cs 0).center)) (units (axis (circle cs 1).center)) h.range.lo h.range.hi (h.range.lo_bounds 1 (lit< tt, same)) (upper_end k.0 k.1.0 k.2) h.not_past beyond
   where
     upper_end : (k : ℕ) → k < 2 → h.range.hi ≼ units (axis (circle cs k).center) → (h.range.hi ≼ units (axis (circle cs 0).center)) ⊎ (h.range.hi ≼ units (axis (circle cs 1).center))
     upper_end k l m = elim (dec_lt k 1) [ yes z ↦ let e : k ≡ 0 = omega arith in inl (rw e at m) | no z ↦ let e : k ≡ 1 = omega arith in inr (rw e at m) ]

@@ -37,8 +37,8 @@ layout-inks cs factor masks areas proportion =
     let answers = layout-answers cs factor masks areas proportion in
     let rs = regions masks areas in
     elim (ℕ_discrete (layout_refusal cs factor masks areas proportion) 0) [
-      | yes z ↦ rw (answers.on-acceptance z) (carried (λ ds. (arranged proportion ds factor rs).circles) (λ is ds. ap (λ (l : Layout). l.circles) (arranged_carries proportion factor rs is ds)) (λ ds. arranged-length proportion ds factor rs) cs)
-      | no z ↦ rw (answers.at-refusal z)
+      | yes z ↦ rw (answers.on_acceptance z) (carried (λ ds. (arranged proportion ds factor rs).circles) (λ is ds. ap (λ (l : Layout). l.circles) (arranged_carries proportion factor rs is ds)) (λ ds. arranged-length proportion ds factor rs) cs)
+      | no z ↦ rw (answers.at_refusal z)
     ]
 
 translated-length : (dx dy : Float) (cs : List Circle) → length (all_translated dx dy cs) ≡ length cs
@@ -66,8 +66,8 @@ contained-inks : (cs : List Circle) (container : Rectangle) → inks (contained 
 contained-inks cs container =
     let answers = container-answers cs container in
     elim (ℕ_discrete (container_refusal cs container) 0) [
-      | yes z ↦ rw (answers.on-acceptance z) (carried (λ ds. (settled container ds).circles) (settled_carries container) (settled-length container) cs)
-      | no z ↦ rw (answers.at-refusal z)
+      | yes z ↦ rw (answers.on_acceptance z) (carried (λ ds. (settled container ds).circles) (settled_carries container) (settled-length container) cs)
+      | no z ↦ rw (answers.at_refusal z)
     ]
 
 -- ---- accepted calls with other inks
@@ -79,8 +79,8 @@ layout_as_before : (is js : List ℕ) (cs : List Circle) (factor : Float) (masks
 layout_as_before is js cs factor masks areas proportion h g =
     let rs = regions masks areas in
     rw (
-      (layout-answers (inked is cs) factor masks areas proportion).on-acceptance h,
-      (layout-answers (inked js cs) factor masks areas proportion).on-acceptance g,
+      (layout-answers (inked is cs) factor masks areas proportion).on_acceptance h,
+      (layout-answers (inked js cs) factor masks areas proportion).on_acceptance g,
       arranged_carries proportion factor rs is cs,
       arranged_carries proportion factor rs js cs,
     ) (refl, sym (inked-again is js (arranged proportion cs factor rs).circles))
@@ -89,8 +89,8 @@ container_as_before : (is js : List ℕ) (cs : List Circle) (container : Rectang
     → container_refusal (inked js cs) container ≡ 0 → (contained (inked is cs) container).circles ≡ inked is (contained (inked js cs) container).circles
 container_as_before is js cs container h g =
     rw (
-      (container-answers (inked is cs) container).on-acceptance h,
-      (container-answers (inked js cs) container).on-acceptance g,
+      (container-answers (inked is cs) container).on_acceptance h,
+      (container-answers (inked js cs) container).on_acceptance g,
       settled_carries container is cs,
       settled_carries container js cs,
     ) (sym (inked-again is js (settled container cs).circles))

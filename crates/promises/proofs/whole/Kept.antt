@@ -58,6 +58,6 @@ module _ (cs : List Circle) (rs : List Region) (sound : (i : ℕ) → i < length
   reach_promised i h t =
       let r = offset-reach cs rs sound i h t in
       let p = r.parent in
-      let q = together i p h r.below (child_chained_to_parent (length cs) rs i p r.is-parent) in
+      let q = together i p h r.below (child_chained_to_parent (length cs) rs i p r.is_parent_lem) in
       let c = pair p i r.below h (sym q) in
-      (p, r.is-parent, rw (c.1.radius, c.2.radius) (reach-kept small (apart-x p i r.below h) (apart-y p i r.below h) c.1 c.2 r.reach))
+      (p, r.is_parent_lem, rw (c.1.radius, c.2.radius) (reach-kept small (apart-x p i r.below h) (apart-y p i r.below h) c.1 c.2 r.reach))

@@ -103,12 +103,12 @@ pub record Gauged64 (g : Clusters) (cs : List Circle) : Type 0 where
 module _ {g : Clusters} {cs : List Circle} (G : Gauged64 g cs) where
   clustered : Clustered (pow2 87) (pow2 80) spread64 (pow2 35) g.count g.numbers cs
   clustered = record {
-    circles = λ j l. let r = (circle cs j).radius in record { x = G.x j l; y = G.y j l; radius = radius_bounded r (G.radius-fits j l) (G.radius-ok j l); lifted = radius_lifted r (G.radius-ok j l) };
-    thick = λ j l. above (units (circle cs j).radius) (radius_at_least (circle cs j).radius (G.radius-fits j l) (G.radius-ok j l));
+    circles = λ j l. let r = (circle cs j).radius in record { x = G.x j l; y = G.y j l; radius = radius_bounded r (G.radius-fits j l) (G.radius_ok_lem j l); lifted = radius_lifted r (G.radius_ok_lem j l) };
+    thick = λ j l. above (units (circle cs j).radius) (radius_at_least (circle cs j).radius (G.radius-fits j l) (G.radius_ok_lem j l));
     numbered = G.numbering.inside;
     used = λ a l. let u = G.numbering.used a l in (u.0, u.1.below, u.1.has);
-    spread_x = G.spread-x;
-    spread_y = G.spread-y;
+    spread_x = G.spread_x;
+    spread_y = G.spread_y;
   }
     where
       apart : pow2 35 < pow2 40

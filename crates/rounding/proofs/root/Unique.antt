@@ -115,7 +115,7 @@ module _ (f : Format) (n k : ℕ) where
   module _ (z : Float) (q i c : ℕ) (placed : BetweenHalfWays f n k z q i c) where
     near : Half (q * (scale_of f k * 2 ^ i)) num (scale_of f k * 2 ^ i)
     unfolding num
-    near = around c q (mag f z) (2 ^ i) (scale_of f k) num placed.half-way placed.size (scaled_le_fraction f n k c placed.below) (fraction_le_scaled f n k (2 * mag f z + 2 ^ i) placed.above)
+    near = around c q (mag f z) (2 ^ i) (scale_of f k) num placed.half_way placed.size (scaled_le_fraction f n k c placed.below) (fraction_le_scaled f n k (2 * mag f z + 2 ^ i) placed.above)
       where
         around : (c q g u d n : ℕ) → c + u ≡ 2 * g → g ≡ q * u → c * d ≤ 2 * n → 2 * n ≤ (2 * g + u) * d → Half (q * (d * u)) n (d * u)
         around c q g u d n e s l h = (omega (arith, ap (λ (y : ℕ). y * d) e, ap (λ (y : ℕ). y * d) s), omega (arith, ap (λ (y : ℕ). y * d) s))
@@ -125,7 +125,7 @@ module _ (f : Format) (n k : ℕ) where
       where
         over : (q g u d n : ℕ) → g ≡ q * u → 2 * n ≡ 2 * (q * (d * u)) + d * u → 2 * n ≡ (2 * g + u) * d
         over q g u d n s h = omega (arith, ap (λ (y : ℕ). y * d) s)
-    even (inr h) = placed.even-below (fraction_eq c (under c q (mag f z) (2 ^ i) (scale_of f k) num placed.half-way placed.size h))
+    even (inr h) = placed.even-below (fraction_eq c (under c q (mag f z) (2 ^ i) (scale_of f k) num placed.half_way placed.size h))
       where
         under : (c q g u d n : ℕ) → c + u ≡ 2 * g → g ≡ q * u → 2 * n + d * u ≡ 2 * (q * (d * u)) → 2 * n ≡ c * d
         under c q g u d n e s h = omega (arith, ap (λ (y : ℕ). y * d) e, ap (λ (y : ℕ). y * d) s)

@@ -14,7 +14,7 @@ too-many-regions-requires : tie.Need-too-many-regions-requires
 too-many-regions-requires c κs = search rules
 
 returns : tie.Need-returns
-returns c = rw (eq-eqb _ _ c.before.if1.true) (c.too-many-regions.ensures ∙ ap too_many_regions (add-one _))
+returns c = rw (eq-eqb _ _ c.before.if1.true) (c.too_many_regions.ensures ∙ ap too_many_regions (add-one _))
 
 returns-2 : tie.Need-returns-2
 returns-2 c = rw (ne_eqb _ _ c.if1.false)

@@ -150,7 +150,7 @@ returns-2 c =
     let l = c.before in
     let v = l.loop.invariant in (
       sym (all_read v (omega arith)),
-      record { circles = v.circles-used; masks = v.masks-used; patterns = v.patterns-used; areas = v.areas-used; nothing = λ h. absurd (h refl) },
+      record { circles = v.circles_used; masks = v.masks_used; patterns = v.patterns_used; areas = v.areas_used; nothing = λ h. absurd (h refl) },
     )
 
 pub later_fields_spec : {M : Type 1} → statement M

@@ -9,7 +9,7 @@ pair-refusal-requires : tie.Need-pair-refusal-requires
 pair-refusal-requires c κs = search rules
 
 returns : tie.Need-returns
-returns c = let number = c.before.pair-refusal.ensures in rw ((circle_distance-answers _ _).at-refusal (λ z. c.if1.true (number ∙ z)), number)
+returns c = let number = c.before.pair-refusal.ensures in rw ((circle_distance-answers _ _).at_refusal (λ z. c.if1.true (number ∙ z)), number)
 
 raw-circle-distance-requires : tie.Need-raw-circle-distance-requires
 raw-circle-distance-requires c κs = search rules
@@ -17,7 +17,7 @@ raw-circle-distance-requires c κs = search rules
 returns-2 : tie.Need-returns-2
 returns-2 c =
     let s = c.before in
-    rw ((circle_distance-answers _ _).on-acceptance (sym s.before.pair-refusal.ensures ∙ s.if1.false), c.raw-circle-distance.ensures)
+    rw ((circle_distance-answers _ _).on_acceptance (sym s.before.pair-refusal.ensures ∙ s.if1.false), c.raw-circle-distance.ensures)
 
 pub distance_spec : {M : Type 1} → statement M
 distance_spec =

@@ -30,8 +30,8 @@ returns c =
     let q = s.before.before in
     let a = q.before.before.args in
     joined _ _ ((3, _) ∷ []) ((4, _) ∷ [])
-    (either_cause 3 (bad_centre a.c) (bad_point a.p) _ _ (flagged 3 q.flag.ensures q.before.bad-centre.ensures) (flagged 3 s.flag2.ensures s.before.bad-point.ensures))
-    (flagged 4 c.flag3.ensures c.before.bad-radius.ensures)
+    (either_cause 3 (bad_centre a.c) (bad_point a.p) _ _ (flagged 3 q.flag.ensures q.before.bad-centre.ensures) (flagged 3 s.flag2.ensures s.before.bad_point.ensures))
+    (flagged 4 c.flag3.ensures c.before.bad_radius.ensures)
 
 pub of_circle_and_point_spec : {M : Type 1} → statement M
 of_circle_and_point_spec = tie.close (tie.spec bad-centre-requires flag-requires bad-point-requires flag-requires-2 bad-radius-requires flag-requires-3 returns)

@@ -20,7 +20,7 @@ flag-requires-2 c κs = search rules
 returns : tie.Need-returns
 returns c =
     let s = c.before.before in
-    joined _ _ ((3, _) ∷ []) ((7, _) ∷ []) (flagged 3 s.flag.ensures s.before.bad-point.ensures) (flagged 7 c.flag2.ensures c.before.bad-side.ensures)
+    joined _ _ ((3, _) ∷ []) ((7, _) ∷ []) (flagged 3 s.flag.ensures s.before.bad_point.ensures) (flagged 7 c.flag2.ensures c.before.bad_side.ensures)
 
 pub of_container_spec : {M : Type 1} → statement M
 of_container_spec = tie.close (tie.spec bad-point-requires flag-requires bad-side-requires flag-requires-2 returns)

@@ -11,7 +11,7 @@ flag-requires : tie.Need-flag-requires
 flag-requires c κs = search rules
 
 returns : tie.Need-returns
-returns c = flagged 6 c.flag.ensures c.before.bad-factor.ensures
+returns c = flagged 6 c.flag.ensures c.before.bad_factor.ensures
 
 pub of_factor_spec : {M : Type 1} → statement M
 of_factor_spec = tie.close (tie.spec bad-factor-requires flag-requires returns)

@@ -27,7 +27,7 @@ returns c =
     let s = c.before.before in
     let q = s.before.before in
     joined _ _ ((13, _) ∷ (2, _) ∷ []) ((5, _) ∷ [])
-    (joined _ _ ((13, _) ∷ []) ((2, _) ∷ []) (one_cause 13 _ q.flag.ensures) (flagged 2 s.flag2.ensures s.before.too-many-regions.ensures))
+    (joined _ _ ((13, _) ∷ []) ((2, _) ∷ []) (one_cause 13 _ q.flag.ensures) (flagged 2 s.flag2.ensures s.before.too_many_regions.ensures))
     (flagged 5 c.flag3.ensures (ap not c.before.is-rising.ensures))
 
 pub of_masks_spec : {M : Type 1} → statement M

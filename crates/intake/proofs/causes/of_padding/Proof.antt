@@ -11,7 +11,7 @@ flag-requires : tie.Need-flag-requires
 flag-requires c κs = search rules
 
 returns : tie.Need-returns
-returns c = flagged 8 c.flag.ensures c.before.bad-padding.ensures
+returns c = flagged 8 c.flag.ensures c.before.bad_padding.ensures
 
 pub of_padding_spec : {M : Type 1} → statement M
 of_padding_spec = tie.close (tie.spec bad-padding-requires flag-requires returns)

@@ -38,7 +38,7 @@ returns c =
     let a = q.before.before.args in
     joined _ _ ((3, _) ∷ []) ((4, _) ∷ [])
     (either_cause 3 (bad_centre a.a) (bad_centre a.b) _ _ (flagged 3 q.flag.ensures q.before.bad-centre.ensures) (flagged 3 s.flag2.ensures s.before.bad-centre2.ensures))
-    (either_cause 4 (bad_radius a.a) (bad_radius a.b) _ _ (flagged 4 t.flag3.ensures t.before.bad-radius.ensures) (flagged 4 c.flag4.ensures c.before.bad-radius2.ensures))
+    (either_cause 4 (bad_radius a.a) (bad_radius a.b) _ _ (flagged 4 t.flag3.ensures t.before.bad_radius.ensures) (flagged 4 c.flag4.ensures c.before.bad-radius2.ensures))
 
 pub of_pair_spec : {M : Type 1} → statement M
 of_pair_spec = tie.close (tie.spec bad-centre-requires flag-requires bad-centre-requires-2 flag-requires-2 bad-radius-requires flag-requires-3 bad-radius-requires-2 flag-requires-4 returns)

@@ -21,7 +21,7 @@ returns : tie.Need-returns
 returns c =
     let s = c.before.before in
     let a = s.before.before.args in
-    either_cause 3 (bad_point a.p) (bad_point a.q) _ _ (flagged 3 s.flag.ensures s.before.bad-point.ensures) (flagged 3 c.flag2.ensures c.before.bad-point2.ensures)
+    either_cause 3 (bad_point a.p) (bad_point a.q) _ _ (flagged 3 s.flag.ensures s.before.bad_point.ensures) (flagged 3 c.flag2.ensures c.before.bad-point2.ensures)
 
 pub of_points_spec : {M : Type 1} → statement M
 of_points_spec = tie.close (tie.spec bad-point-requires flag-requires bad-point-requires-2 flag-requires-2 returns)

@@ -9,7 +9,7 @@ bad-point-requires c κs = search rules
 
 returns : tie.Need-returns
 unfolding bad_centre
-returns c = c.bad-point.ensures
+returns c = c.bad_point.ensures
 
 pub bad_centre_spec : {M : Type 1} → statement M
 bad_centre_spec = tie.close (tie.spec bad-point-requires returns)

@@ -32,7 +32,7 @@ add-hi : tie.Need-overflow-add-hi
 add-hi c = let w = let s = c.before.before.before.before.before in added s.before.before.requires s.before.square.ensures s.square2.ensures c.before.before.before.before.quartered.ensures in omega (arith, first-upper w, quotient_upper w)
 
 add-hi-2 : tie.Need-overflow-add-hi-2
-add-hi-2 c = let w = let s = c.before.before.before.before.before in added s.before.before.requires s.before.square.ensures s.square2.ensures c.before.before.before.before.quartered.ensures in omega (arith, first-upper w, quotient_upper w, w.first-low, w.quotient-low)
+add-hi-2 c = let w = let s = c.before.before.before.before.before in added s.before.before.requires s.before.square.ensures s.square2.ensures c.before.before.before.before.quartered.ensures in omega (arith, first-upper w, quotient_upper w, w.first-low, w.quotient_low)
 
 returns : tie.Need-returns
 returns c = added_kept (let s = c.before.before.before.before.before.before in added s.before.before.requires s.before.square.ensures s.square2.ensures c.before.before.before.before.before.quartered.ensures) c.if1.true
