@@ -99,7 +99,7 @@ module _ {h i o s n lines B R D t : ℕ} (b : Budget h i o s n lines B R D t) {c
       le_below {x} {y} {z} p q = omega arith
 
   pub padding_bounded : Bounded (pow2 (60 + (s + n))) reported
-  padding_bounded = sizes.padding-bounded s n b.ts rects factor few_rects fewer_rects (λ a l. area_is_upto a (below a l)) hf
+  padding_bounded = sizes.padding_bounded s n b.ts rects factor few_rects fewer_rects (λ a l. area_is_upto a (below a l)) hf
 
   pub padding_not_negative : nat 0 ≼ units factor → nat 0 ≼ units reported
   padding_not_negative = sizes.padding_not_negative s n b.ts rects factor few_rects fewer_rects (λ a l. area_is_upto a (below a l)) hf

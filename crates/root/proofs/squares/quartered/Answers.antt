@@ -6,8 +6,7 @@ use native.Mathlib.Omega.{arith}
 use lib.Pow.{pow-add}
 use borrow.Author.Rules.{rules}
 use Rattle.root.proofs.SquareLaws.{rest_is, rest-small, quotient_is}
-use Rattle.root.proofs.squares.quartered.Statement.{statement}
-use Rattle.root.proofs.squares.quartered.Tie as tie
+use Rattle.root.proofs.squares.quartered.Goals as goal
 
 whole : (d : ℕ) → d ≤ 26 → 2 ^ (2 * d) * 2 ^ (54 - 2 * d) ≡ 2 ^ 54
 whole d h = sym (pow-add 2 (2 * d) (54 - 2 * d)) ∙ ap (λ (x : ℕ). 2 ^ x) (the d h)
@@ -29,34 +28,16 @@ upper hi lo d h l =
     let w = whole d l in
     ap (λ (x : ℕ). x * 2 ^ j % 2 ^ 64) (kept hi (hi / 2 ^ k * 2 ^ k) (hi % 2 ^ k) (rest_is hi lo k j w) h) ∙ shifted (hi % 2 ^ k) (2 ^ j) (rest-small hi lo k j w)
 
-mul-k : tie.Need-overflow-mul-k
-mul-k c = search rules
+pub overflow_sub-result : goal.overflow_sub-result
+overflow_sub-result c = let a = c.args in let e = rest_is a.hi a.lo (2 * a.d) (54 - 2 * a.d) (whole a.d c.requires.2) in omega (arith, e)
 
-shr_top : tie.Need-overflow-shr-top
-shr_top c = search rules
-
-shl-t6 : tie.Need-overflow-shl-t6
-shl-t6 c = search rules
-
-sub-t7 : tie.Need-overflow-sub-t7
-sub-t7 c = let a = c.args in let e = rest_is a.hi a.lo (2 * a.d) (54 - 2 * a.d) (whole a.d c.requires.2) in omega (arith, e)
-
-sub-t8 : tie.Need-overflow-sub-t8
-sub-t8 c = search rules
-
-shl-t9 : tie.Need-overflow-shl-t9
-shl-t9 c = search rules
-
-shr-t10 : tie.Need-overflow-shr-t10
-shr-t10 c = search rules
-
-add-t11 : tie.Need-overflow-add-t11
-add-t11 c =
+pub overflow_add-result : goal.overflow_add-result
+overflow_add-result c =
     let a = c.args in
     let k = 2 * a.d in
     omega (arith, upper a.hi a.lo a.d c.requires.0 c.requires.2, rest-small a.hi a.lo k (54 - k) (whole a.d c.requires.2), div-le_self a.lo (2 ^ k))
 
-returns : tie.Need-returns
+pub returns : goal.returns
 returns c =
     let a = c.args in
     let k = 2 * a.d in
@@ -65,6 +46,3 @@ returns c =
     let s = rest-small a.hi a.lo k j w in
     let e = upper a.hi a.lo a.d c.requires.0 c.requires.2 in
     (ap (λ (x : ℕ). a.hi / 2 ^ k * 2 ^ 54 + (x + a.lo / 2 ^ k)) e ∙ quotient_is a.hi a.lo k j w, omega (arith, e, s, div-le_self a.lo (2 ^ k)))
-
-pub quartered_spec : {M : Type 1} → statement M
-quartered_spec = tie.close (tie.spec mul-k shr_top shl-t6 sub-t7 sub-t8 shl-t9 shr-t10 add-t11 returns)
