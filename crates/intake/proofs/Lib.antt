@@ -6,12 +6,5 @@ pub mod InPlace
 pub mod SoFar
 pub mod Columns
 pub mod CauseWords
-pub mod Lending
 pub mod Turns
-pub mod NumberArrays
-pub mod TakenCalls
 pub mod Splitting
-pub mod SplitCall
-pub mod ColumnsCall
-pub mod SidesCall
-pub mod PointsCall

@@ -9,6 +9,7 @@ use borrow.Author.Tests.{le-ltb, ltb-false}
 use lib.ListN.{length, get_or, set, take, drop, length-take}
 use lib.Seq.{take_all, take_at, length-take-le, get_or-take}
 use lib.Ieee.{Float, nan}
+use Rattle.std.proofs.lemmas.List.{get_or_default}
 use Rattle.shapes.specs.declared.point.Point.{Point}
 use Rattle.shapes.specs.declared.circle.Circle.{Circle}
 use Rattle.scope.specs.Limits.{circle_cap, point_cap}
@@ -128,6 +129,16 @@ module _ (c : Cap) {A B : Type 0} {d : A} (k : Field d B) (cs : List A) (zs : Li
       by_test : (b : Bool) → after k cs zs (cond b 0 (length cs)) ≡ unless b (k.column cs) zs
       by_test true = refl
       by_test false = rw (k.long cs, take_all (length cs) (k.column cs) (rw (k.long cs) (omega arith)))
+
+  -- the same of an array m that stands so, and a record that is read with any default
+  pub run_next : (i : ℕ) (d' : A) {m : List B} → i < end → m ≡ after k cs zs i → set m i (k.of (get_or cs i d')) ≡ after k cs zs (i + 1)
+  run_next i d' h q = let room = taken_few c (length cs) in rw (q, get_or_default cs i d' d (omega arith)) (after_next i h)
+
+  pub run_long : (i : ℕ) {m : List B} → i ≤ end → m ≡ after k cs zs i → length m ≡ c.width
+  run_long i h q = rw q (after_long i h)
+
+  pub run_all : (i : ℕ) {m : List B} → i ≤ end → end ≤ i → m ≡ after k cs zs i → m ≡ unless (c.many (length cs)) (k.column cs) zs
+  run_all i low high q = let all : i ≡ end = omega arith in q ∙ rw all after_all
 
 -- the same of the first n records of an array: the column is theirs, and there is room for it
 module _ {A B : Type 0} {d : A} (k : Field d B) (n : ℕ) (cs : List A) (inside : n ≤ length cs) (zs : List B) (wide : n ≤ length zs) where
