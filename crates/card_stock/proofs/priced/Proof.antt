@@ -27,7 +27,7 @@ number-of-requires c κs = search rules
 
 returns-2 : tie.Need-returns-2
 returns-2 c =
-    rw (eq-eqb _ 0 c.before.before.if1.false) (c.number_of_lem.ensures ∙ number-says _ _ c.before.of-price.ensures ∙ price_number _)
+    rw (eq-eqb _ 0 c.before.before.if1.false) (c.number_of.ensures ∙ number-says _ _ c.before.of-price.ensures ∙ price_number _)
 
 pub priced_spec : {M : Type 1} → statement M
 priced_spec = tie.close (tie.spec returns of-price-requires number-of-requires returns-2)

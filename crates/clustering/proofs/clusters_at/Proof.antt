@@ -25,7 +25,7 @@ returns : tie.Need-returns
 returns c =
     let s = c.before.before in
     let a = s.before.before.args in
-    let number = s.number_of_lem.ensures ∙ number-says _ _ s.before.of-circles.ensures ∙ front-number a.n a.xs.now a.ys.now a.radii.now a.inks.now in
+    let number = s.number_of.ensures ∙ number-says _ _ s.before.of-circles.ensures ∙ front-number a.n a.xs.now a.ys.now a.radii.now a.inks.now in
     c.refused.ensures ∙ ap refused_grouping number ∙ sym ((counted-answers _ _).at_refusal (λ z. c.before.if1.true (number ∙ z)))
 
 in-front-requires : tie.Need-in-front-requires
@@ -33,7 +33,7 @@ unfolding circle_cap
 in-front-requires c κs =
     let s = c.before.before.before.before in
     let a = s.before.before.args in
-    let number = s.number_of_lem.ensures ∙ number-says _ _ s.before.of-circles.ensures ∙ front-number a.n a.xs.now a.ys.now a.radii.now a.inks.now in
+    let number = s.number_of.ensures ∙ number-says _ _ s.before.of-circles.ensures ∙ front-number a.n a.xs.now a.ys.now a.radii.now a.inks.now in
     ((none-counted _ _ (sym number ∙ c.before.before.before.if1.false)).1, search rules, search rules, search rules)
 
 returns-2 : tie.Need-returns-2
@@ -41,7 +41,7 @@ unfolding grouping
 returns-2 c =
     let s = c.before.before.before.before.before in
     let a = s.before.before.args in
-    let number = s.number_of_lem.ensures ∙ number-says _ _ s.before.of-circles.ensures ∙ front-number a.n a.xs.now a.ys.now a.radii.now a.inks.now in
+    let number = s.number_of.ensures ∙ number-says _ _ s.before.of-circles.ensures ∙ front-number a.n a.xs.now a.ys.now a.radii.now a.inks.now in
     c.in-front.ensures ∙ sym (ap (grouping 0) (plain_clusters_blind (take a.n a.inks.now) (bare_front a.n a.xs.now a.ys.now a.radii.now)))
     ∙ sym ((counted-answers _ _).on_acceptance (sym number ∙ c.before.before.before.before.if1.false))
 

@@ -27,7 +27,7 @@ returns : tie.Need-returns
 unfolding regions_refusal
 returns c =
     let s = c.before.before in
-    let number = s.number_of_lem.ensures ∙ number-says _ _ (joined _ _ ((1, _) ∷ []) ((13, _) ∷ (2, _) ∷ (5, _) ∷ []) s.before.before.of-count.ensures s.before.of-regions.ensures) in
+    let number = s.number_of.ensures ∙ number-says _ _ (joined _ _ ((1, _) ∷ []) ((13, _) ∷ (2, _) ∷ (5, _) ∷ []) s.before.before.of-count.ensures s.before.of-regions.ensures) in
     let refused = (area_grouping-answers _ _ _ _).at_refusal (λ z. c.before.if1.true (number ∙ z)) in
     let answer = c.refused.ensures ∙ ap refused_grouping number ∙ sym refused in
     (answer, λ z. area_chains _ _ _ _ _ answer z)
@@ -36,7 +36,7 @@ by-regions-requires : tie.Need-by-regions-requires
 unfolding circle_cap regions_refusal
 by-regions-requires c κs =
     let s = c.before in
-    let number = s.number_of_lem.ensures ∙ number-says _ _ (joined _ _ ((1, _) ∷ []) ((13, _) ∷ (2, _) ∷ (5, _) ∷ []) s.before.before.of-count.ensures s.before.of-regions.ensures) in
+    let number = s.number_of.ensures ∙ number-says _ _ (joined _ _ ((1, _) ∷ []) ((13, _) ∷ (2, _) ∷ (5, _) ∷ []) s.before.before.of-count.ensures s.before.of-regions.ensures) in
     let none = sym number ∙ c.if1.false in
     (regions_few _ _ _ none, regions_equal _ _ _ none)
 
@@ -44,7 +44,7 @@ returns-2 : tie.Need-returns-2
 unfolding regions_refusal
 returns-2 c =
     let s = c.before.before in
-    let number = s.number_of_lem.ensures ∙ number-says _ _ (joined _ _ ((1, _) ∷ []) ((13, _) ∷ (2, _) ∷ (5, _) ∷ []) s.before.before.of-count.ensures s.before.of-regions.ensures) in
+    let number = s.number_of.ensures ∙ number-says _ _ (joined _ _ ((1, _) ∷ []) ((13, _) ∷ (2, _) ∷ (5, _) ∷ []) s.before.before.of-count.ensures s.before.of-regions.ensures) in
     let answer = c.by-regions.ensures ∙ area-accepted _ _ _ _ (sym number ∙ c.before.if1.false) in
     (answer, λ z. area_chains _ _ _ _ _ answer z)
 

@@ -7,9 +7,9 @@ use Rattle.packing.proofs.columns.Statement.{statement}
 use Rattle.packing.proofs.columns.Tie as tie
 
 -- the number is that of the words of both checks
-numbered : (c : tie.After-number-of) → c.number_of_lem.result ≡ columns_refusal c.before.before.before.args.k c.before.before.before.args.proportion
+numbered : (c : tie.After-number-of) → c.number_of.result ≡ columns_refusal c.before.before.before.args.k c.before.before.before.args.proportion
 unfolding columns_refusal
-numbered c = c.number_of_lem.ensures ∙ number-says _ _ (joined _ _ ((1, _) ∷ []) ((16, _) ∷ []) c.before.before.of-count.ensures c.before.of-proportion.ensures)
+numbered c = c.number_of.ensures ∙ number-says _ _ (joined _ _ ((1, _) ∷ []) ((16, _) ∷ []) c.before.before.of-count.ensures c.before.of-proportion.ensures)
 
 of-count-requires : tie.Need-of-count-requires
 of-count-requires c κs = search rules

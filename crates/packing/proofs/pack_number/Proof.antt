@@ -54,7 +54,7 @@ returns c =
     let sides = joined _ _ ((1, _) ∷ (7, _) ∷ []) ((7, _) ∷ []) (joined _ _ ((1, _) ∷ []) ((7, _) ∷ []) counted d.before.before.before.before.of-sides.ensures) d.before.before.of-sides2.ensures in
     let padded = joined _ _ ((1, _) ∷ (7, _) ∷ (7, _) ∷ []) ((8, _) ∷ []) sides d.before.of-padding.ensures in
     let all = joined _ _ ((1, _) ∷ (7, _) ∷ (7, _) ∷ (8, _) ∷ []) ((16, _) ∷ []) padded d.of-proportion.ensures in
-    c.number_of_lem.ensures ∙ number-says _ _ all
+    c.number_of.ensures ∙ number-says _ _ all
     ∙ rw (d.before.before.before.before.before.before.before.room.ensures, sub-zero) (sides_number_lem a.n a.widths.now a.heights.now a.padding a.proportion S.requires.0 S.requires.1)
 
 pub pack_number_spec : {M : Type 1} → statement M

@@ -21,11 +21,11 @@ number-of-requires c κs = search rules
 
 -- what the words give together
 number_is : (c : tie.After-number-of)
-    → let a = c.before.before.before.before.before.args in c.number_of_lem.result ≡ front_refusal a.n a.xs.now a.ys.now a.radii.now a.inks.now a.m a.bad (length a.answers.now)
+    → let a = c.before.before.before.before.before.args in c.number_of.result ≡ front_refusal a.n a.xs.now a.ys.now a.radii.now a.inks.now a.m a.bad (length a.answers.now)
 number_is c =
     let a = c.before.before.before.before.before.args in
     front-number a.n a.xs.now a.ys.now a.radii.now a.inks.now a.m a.across.now a.up.now a.bad a.answers.now _ _ _
-    c.before.before.before.of-circles.ensures c.before.before.of-points-seen.ensures c.before.of-batch.ensures c.number_of_lem.ensures
+    c.before.before.before.of-circles.ensures c.before.before.of-points-seen.ensures c.before.of-batch.ensures c.number_of.ensures
 
 returns : tie.Need-returns
 returns c =

@@ -47,7 +47,7 @@ returns c =
     joined _ _ ((1, _) ∷ (3, _) ∷ (4, _) ∷ (14, _) ∷ (13, _) ∷ (2, _) ∷ (5, _) ∷ []) ((6, _) ∷ [])
     (joined _ _ ((1, _) ∷ (3, _) ∷ (4, _) ∷ (14, _) ∷ []) ((13, _) ∷ (2, _) ∷ (5, _) ∷ []) q.of-circles.ensures r.of-regions.ensures)
     f.of-factor.ensures in
-    c.number_of_lem.ensures ∙ number-says _ _ all ∙ rw (e.1, e.2, e.3, e.4) (card_values s.args.card s.requires _ _ _ _)
+    c.number_of.ensures ∙ number-says _ _ all ∙ rw (e.1, e.2, e.3, e.4) (card_values s.args.card s.requires _ _ _ _)
 
 pub value_refusal_spec : {M : Type 1} → statement M
 value_refusal_spec =

@@ -44,7 +44,7 @@ start c = c.before.before.before.before.before.before.before.before.before.befor
 abbrev number_of : tie.After-number-of → ℕ
 number_of c = let a = (start c).args in number a.n a.xs.now a.ys.now a.radii.now a.inks.now a.factor a.masks.now a.patterns.now a.out.now
 
-number_is : (c : tie.After-number-of) → c.number_of_lem.result ≡ number_of c
+number_is : (c : tie.After-number-of) → c.number_of.result ≡ number_of c
 unfolding circle_cap
 number_is c =
     let o = c.before in
@@ -58,7 +58,7 @@ number_is c =
     (joined _ _ ((1, _) ∷ (3, _) ∷ (4, _) ∷ (14, _) ∷ (13, _) ∷ (2, _) ∷ (5, _) ∷ []) ((6, _) ∷ [])
     (joined _ _ ((1, _) ∷ (3, _) ∷ (4, _) ∷ (14, _) ∷ []) ((13, _) ∷ (2, _) ∷ (5, _) ∷ []) (start c).requires.4 m.of-masks.ensures) f.of-factor.ensures)
     (rw s.is-short.ensures at o.of_output.ensures) in
-    c.number_of_lem.ensures ∙ number-says _ _ all
+    c.number_of.ensures ∙ number-says _ _ all
     ∙ writer_number a.n a.xs.now a.ys.now a.radii.now a.inks.now a.factor a.masks.now a.patterns.now a.out.now (start c).requires.0 r.room.result
     (λ h. let few-enough = few a.n h in r.room.ensures ∙ min-eq_left (omega (arith, few-enough)))
 
@@ -67,7 +67,7 @@ Fits c =
     let a = (start c).args in
     (a.n ≤ 64) × (length a.patterns.now ≡ length a.masks.now) × (11 + 29 * a.n + 19 * length a.masks.now ≤ length a.out.now)
 
-fits : (c : tie.After-number-of) → c.number_of_lem.result ≡ 0 → Fits c
+fits : (c : tie.After-number-of) → c.number_of.result ≡ 0 → Fits c
 fits c z = let a = (start c).args in number-none a.n a.xs.now a.ys.now a.radii.now a.inks.now a.factor a.masks.now a.patterns.now a.out.now (start c).requires.0 (sym (number_is c) ∙ z)
 
 typed : (c : tie.After-number-of) → let a = (start c).args in AreTyped (front_card a.n a.xs.now a.ys.now a.radii.now a.inks.now a.factor a.masks.now a.patterns.now)

@@ -20,7 +20,7 @@ returns : tie.Need-returns
 returns c =
     let a = c.before.before.before.args in
     let causes = joined _ _ ((1, _) ∷ (3, _) ∷ (4, _) ∷ (14, _) ∷ []) ((3, _) ∷ (7, _) ∷ []) c.before.before.of-circles.ensures c.before.of-container.ensures in
-    c.number_of_lem.ensures ∙ number-says _ _ causes ∙ container-number a.n a.xs.now a.ys.now a.radii.now a.inks.now a.container
+    c.number_of.ensures ∙ number-says _ _ causes ∙ container-number a.n a.xs.now a.ys.now a.radii.now a.inks.now a.container
 
 pub number_spec : {M : Type 1} → statement M
 number_spec = tie.close (tie.spec of-circles-requires of-container-requires number-of-requires returns)

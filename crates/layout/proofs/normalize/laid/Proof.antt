@@ -31,7 +31,7 @@ returns c =
     let all = joined _ _ ((1, _) ∷ (3, _) ∷ (4, _) ∷ (14, _) ∷ (13, _) ∷ (2, _) ∷ (5, _) ∷ (6, _) ∷ []) ((16, _) ∷ [])
     (joined _ _ ((1, _) ∷ (3, _) ∷ (4, _) ∷ (14, _) ∷ (13, _) ∷ (2, _) ∷ (5, _) ∷ []) ((6, _) ∷ [])
     (joined _ _ ((1, _) ∷ (3, _) ∷ (4, _) ∷ (14, _) ∷ []) ((13, _) ∷ (2, _) ∷ (5, _) ∷ []) c.before.before.before.before.before.before.of-circles.ensures c.before.before.before.before.before.of-regions.ensures) c.before.before.before.before.of-factor.ensures) c.before.before.before.of-proportion.ensures in
-    laid_refused a.n a.xs.now a.ys.now a.radii.now a.inks.now a.factor a.masks.now a.areas.now a.proportion c.refused.result _ (c.before.before.number_of_lem.ensures ∙ number-says _ _ all ∙ layout-number a.n a.xs.now a.ys.now a.radii.now a.inks.now a.factor a.masks.now a.areas.now a.proportion) c.before.if1.true c.refused.ensures
+    laid_refused a.n a.xs.now a.ys.now a.radii.now a.inks.now a.factor a.masks.now a.areas.now a.proportion c.refused.result _ (c.before.before.number_of.ensures ∙ number-says _ _ all ∙ layout-number a.n a.xs.now a.ys.now a.radii.now a.inks.now a.factor a.masks.now a.areas.now a.proportion) c.before.if1.true c.refused.ensures
 
 in-front-requires : tie.Need-in-front-requires
 in-front-requires c κs =
@@ -39,7 +39,7 @@ in-front-requires c κs =
     let all = joined _ _ ((1, _) ∷ (3, _) ∷ (4, _) ∷ (14, _) ∷ (13, _) ∷ (2, _) ∷ (5, _) ∷ (6, _) ∷ []) ((16, _) ∷ [])
     (joined _ _ ((1, _) ∷ (3, _) ∷ (4, _) ∷ (14, _) ∷ (13, _) ∷ (2, _) ∷ (5, _) ∷ []) ((6, _) ∷ [])
     (joined _ _ ((1, _) ∷ (3, _) ∷ (4, _) ∷ (14, _) ∷ []) ((13, _) ∷ (2, _) ∷ (5, _) ∷ []) c.before.before.before.before.before.before.before.before.of-circles.ensures c.before.before.before.before.before.before.before.of-regions.ensures) c.before.before.before.before.before.before.of-factor.ensures) c.before.before.before.before.before.of-proportion.ensures in
-    let none = number-none a.n a.xs.now a.ys.now a.radii.now a.inks.now a.factor a.masks.now a.areas.now a.proportion (sym (c.before.before.before.before.number_of_lem.ensures ∙ number-says _ _ all ∙ layout-number a.n a.xs.now a.ys.now a.radii.now a.inks.now a.factor a.masks.now a.areas.now a.proportion) ∙ c.before.before.before.if1.false) in
+    let none = number-none a.n a.xs.now a.ys.now a.radii.now a.inks.now a.factor a.masks.now a.areas.now a.proportion (sym (c.before.before.before.before.number_of.ensures ∙ number-says _ _ all ∙ layout-number a.n a.xs.now a.ys.now a.radii.now a.inks.now a.factor a.masks.now a.areas.now a.proportion) ∙ c.before.before.before.if1.false) in
     let inside = bare_accepted a.n a.xs.now a.ys.now a.radii.now a.inks.now a.factor a.masks.now a.areas.now a.proportion none.1 in
     (none.0, search rules, search rules, search rules, inside.0, inside.1)
 
@@ -49,7 +49,7 @@ returns-2 c =
     let all = joined _ _ ((1, _) ∷ (3, _) ∷ (4, _) ∷ (14, _) ∷ (13, _) ∷ (2, _) ∷ (5, _) ∷ (6, _) ∷ []) ((16, _) ∷ [])
     (joined _ _ ((1, _) ∷ (3, _) ∷ (4, _) ∷ (14, _) ∷ (13, _) ∷ (2, _) ∷ (5, _) ∷ []) ((6, _) ∷ [])
     (joined _ _ ((1, _) ∷ (3, _) ∷ (4, _) ∷ (14, _) ∷ []) ((13, _) ∷ (2, _) ∷ (5, _) ∷ []) c.before.before.before.before.before.before.before.before.before.of-circles.ensures c.before.before.before.before.before.before.before.before.of-regions.ensures) c.before.before.before.before.before.before.before.of-factor.ensures) c.before.before.before.before.before.before.of-proportion.ensures in
-    let none = number-none a.n a.xs.now a.ys.now a.radii.now a.inks.now a.factor a.masks.now a.areas.now a.proportion (sym (c.before.before.before.before.before.number_of_lem.ensures ∙ number-says _ _ all ∙ layout-number a.n a.xs.now a.ys.now a.radii.now a.inks.now a.factor a.masks.now a.areas.now a.proportion) ∙ c.before.before.before.before.if1.false) in
+    let none = number-none a.n a.xs.now a.ys.now a.radii.now a.inks.now a.factor a.masks.now a.areas.now a.proportion (sym (c.before.before.before.before.before.number_of.ensures ∙ number-says _ _ all ∙ layout-number a.n a.xs.now a.ys.now a.radii.now a.inks.now a.factor a.masks.now a.areas.now a.proportion) ∙ c.before.before.before.before.if1.false) in
     c.in-front.ensures a.inks.now none.1
 
 pub laid_spec : {M : Type 1} → statement M
