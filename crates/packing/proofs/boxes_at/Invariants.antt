@@ -1,0 +1,16 @@
+-- `boxes_at` meets its contract: the first i boxes stand over as many empty ones.
+use Rattle.std.proofs.Common.{◌≡◌, ◌-◌, ◌≤◌, replicate, ap, ◌∙◌, arith, rules}
+use Rattle.scope.specs.Runs.{tab}
+use Rattle.scope.specs.Limits.{circle_cap}
+use Rattle.scope.specs.Packing.{no_rectangle}
+use Rattle.intake.specs.Limits.{max_circles}
+use Rattle.intake.proofs.Overwriting.{over}
+use Rattle.packing.specs.Sides.{box_at}
+use Rattle.packing.proofs.Arrays.{over_tab_next, over_tab_all}
+use Rattle.packing.proofs.boxes_at.Given as goal
+
+abbrev pub invariant-loop-i : goal.invariant-loop-i
+invariant-loop-i l = (l.i ≤ l.n) × (l.n ≤ max_circles) × (l.boxes ≡ over l.i (tab l.n (box_at l.xs l.ys l.widths l.heights)) (replicate max_circles no_rectangle))
+
+abbrev pub decreases-loop-i : goal.decreases-loop-i
+decreases-loop-i l = l.n - l.i

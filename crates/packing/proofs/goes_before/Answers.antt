@@ -1,0 +1,11 @@
+-- `goes_before` meets its contract.
+use Rattle.packing.proofs.goes_before.Goals as goal
+
+pub returns-then-a-b : goal.returns-then-a-b
+returns-then-a-b c = rw c.if-a-b.true
+
+pub returns-then-a-b-2 : goal.returns-then-a-b-2
+returns-then-a-b-2 c = rw (c.if-a-b.false, c.if-a-b-2.true)
+
+pub returns-else-a-b-2 : goal.returns-else-a-b-2
+returns-else-a-b-2 c = rw (c.if-a-b.false, c.if-a-b-2.false)

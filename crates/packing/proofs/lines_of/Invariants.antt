@@ -1,0 +1,15 @@
+-- `lines_of` meets its contract, box by box.
+use Rattle.std.proofs.Common.{◌≡◌, ℕ, ◌-◌, ◌/◌, ◌%◌, ◌<◌, ◌≤◌, length, ap, arith, length-set}
+use Rattle.scope.specs.Packing.{place}
+use Rattle.intake.specs.Columns.{at}
+use Rattle.packing.specs.Lists.{At}
+use Rattle.packing.proofs.Arrays.{at_none, at_more}
+use Rattle.promises.proofs.packing.Proportions.{grid_fits_64}
+use Rattle.packing.proofs.ColumnTable.{proportion_good}
+use Rattle.packing.proofs.lines_of.Given as goal
+
+abbrev pub invariant-loop-i : goal.invariant-loop-i
+invariant-loop-i l = (l.i ≤ length l.areas) × (length l.columns ≡ length l.areas) × (length l.rows ≡ length l.areas) × (At l.i l.columns 0 (λ b. place (length l.areas) (at l.areas) b % l.count) × At l.i l.rows 0 (λ b. place (length l.areas) (at l.areas) b / l.count))
+
+abbrev pub decreases-loop-i : goal.decreases-loop-i
+decreases-loop-i l = length l.areas - l.i

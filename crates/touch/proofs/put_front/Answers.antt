@@ -1,0 +1,7 @@
+-- `put_front` meets its contract.
+use native.Mathlib.Nat.{sub-zero}
+use borrow.Author.Rules.{rules}
+use Rattle.touch.proofs.put_front.Goals as goal
+
+pub returns : goal.returns
+returns c = simp sub-zero at c.put_masks.ensures
