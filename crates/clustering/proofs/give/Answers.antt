@@ -2,7 +2,7 @@
 use Prim.Native.Nat.{ℕ, ◌-◌, ◌≤◌}
 use native.Mathlib.Omega.{arith}
 use mathlib.Core.Path.{◌≡◌}
-use mathlib.Core.Logic.{⊎_elim}
+use Rattle.std.proofs.Common.{eq-eqb, ne_eqb}
 use mathlib.Core.Bool.{Bool, not, cond}
 use lib.Dec.{eqb}
 use lib.ListN.{get_or}
@@ -22,8 +22,8 @@ loop-j-preserved c =
     let hi = c.requires.1 in
     let hj = c.loop-j-test.true in
     let marked = not (eqb (cell a.m.now a.i l.j) 0) in
-    let number : x.numbers ≡ cond marked a.number (get_or l.numbers l.j 0) = elim x.branch [ then-marked w ↦ rw w.if-marked.true w.numbers-is | else-marked w ↦ rw w.if-marked.false w.numbers-is ] in
-    let seen : c.if-marked-2.seen ≡ cond marked 1 (get_or l.seen l.j 0) = elim c.if-marked-2.branch [ then-marked-2 w ↦ rw w.if-marked-2.true w.seen-is | else-marked-2 w ↦ rw w.if-marked-2.false w.seen-is ] in (
+    let number : x.numbers ≡ cond marked a.number (get_or l.numbers l.j 0) = elim x.branch [ then-marked w ↦ rw (ne_eqb _ _ w.if-marked.true) w.numbers-is | else-marked w ↦ rw (eq-eqb _ _ w.if-marked.false) w.numbers-is ] in
+    let seen : c.if-marked-2.seen ≡ cond marked 1 (get_or l.seen l.j 0) = elim c.if-marked-2.branch [ then-marked-2 w ↦ rw (ne_eqb _ _ w.if-marked-2.true) w.seen-is | else-marked-2 w ↦ rw (eq-eqb _ _ w.if-marked-2.false) w.seen-is ] in (
       omega arith,
       λ f s.
           let g = l.invariant.1 f s in

@@ -2,11 +2,10 @@
 use Prim.Native.Nat.{ℕ, ◌-◌, ◌≤◌, ◌<◌}
 use native.Mathlib.Omega.{arith}
 use mathlib.Core.Bool.{Bool}
-use mathlib.Core.Logic.{⊎_elim}
-use borrow.Author.Tests.{eqb-true}
 use Rattle.clustering.specs.Table.{Shows, Holds}
 use Rattle.clustering.proofs.Packing.{shown_to, shown_start, shown_end, row_unpacked, row_copied}
 use Rattle.clustering.proofs.unpack.Goals as goal
+use Rattle.clustering.proofs.unpack.Goals.{then-first-i+then-rows-first, else-first-i}
 
 pub loop-i-init : goal.loop-i-init
 loop-i-init c = (omega arith, λ f g h s. shown_start _ f g s)
@@ -17,12 +16,12 @@ loop-i-preserved c =
     let hi = c.loop-i-test.true in (
       omega arith,
       λ f g h s.
-          ⊎_elim
-          (λ w.
+          elim c.if-first-i.branch [
+            then-first-i+then-rows-first w ↦
           let earlier : c.first_of-first.result < l.i = omega arith in
-          rw w.4 (row_copied _ f g _ h l.i _ hi earlier (eqb-true _ _ w.2.taken) (l.invariant.1 f g h s)))
-          (λ w. rw w.3 (row_unpacked _ f g _ h l.i hi (w.2.ensures _ _ c.requires (l.invariant.1 f g h s))))
-          c.if-first-i.branch,
+          rw w.m-is (row_copied _ f g _ h l.i _ hi earlier w.if-rows-first.true (l.invariant.1 f g h s))
+          | else-first-i w ↦ rw w.m-is (row_unpacked _ f g _ h l.i hi (w.unpack_row.ensures _ _ c.requires (l.invariant.1 f g h s)))
+          ],
     )
 
 pub returns : goal.returns

@@ -13,9 +13,6 @@ use Rattle.clustering.proofs.unpack_row.Goals as goal
 pub loop-rest-init : goal.loop-rest-init
 loop-rest-init c = (λ j h. h, λ n f s. s)
 
-pub bounds-2-m : goal.bounds-2-m
-bounds-2-m c = c.first_of.ensures.1 c.before.loop-test.true
-
 pub without_first-rest-requires : goal.without_first-rest-requires
 without_first-rest-requires c = c.loop-rest-test.true
 
