@@ -1,6 +1,6 @@
 -- `later_fields` meets its contract. The invariant: the arrays hold what stands before the place, and reading on gives what reading from the start gives.
 use native.Mathlib.Omega.{arith}
-use mathlib.Core.Path.{refl, sym, ◌∙◌}
+use mathlib.Core.Path.{sym, ◌∙◌}
 use Rattle.laws.proofs.CardFiles.{stops}
 use Rattle.card_file.proofs.Reading.{SoFar, nothing_yet, next_is_whole, refusal_is, circle-fits, region-fits, turn, with_circle_lem, with_region_lem, all_read}
 use mathlib.Core.Path.{subst}
@@ -22,13 +22,14 @@ loop-at-init c =
     subst (λ (b : Circle). SoFar a.file.now a.start a.factor 0 (replicate max_circles b) 0 (replicate max_regions 0) (replicate max_regions 0) (replicate max_regions nought) a.start)
     (sym c.blank-circles.ensures) (nothing_yet a.file.now a.start a.factor)
 
-pub returns-then-refusal-ne0 : goal.returns-then-refusal-ne0
-returns-then-refusal-ne0 c =
+pub returns-then-refusal-ne0-clause-answer : goal.returns-then-refusal-ne0-clause-answer
+returns-then-refusal-ne0-clause-answer c =
     let v = c.loop-at.invariant in
-    let e = refusal_is v c.next_refusal-refusal.ensures in record {
-      answer = rw c.refused.ensures (refused-answer _ _ c.if-refusal-ne0.true ∙ sym (turn v c.loop-at-test.true ∙ rw (← e) (stops _ _ c.if-refusal-ne0.true)));
-      rest = rw c.refused.ensures (refused_is_blank _);
-    }
+    let e = refusal_is v c.next_refusal-refusal.ensures in
+    rw c.refused.ensures (refused-answer _ _ c.if-refusal-ne0.true ∙ sym (turn v c.loop-at-test.true ∙ rw (← e) (stops _ _ c.if-refusal-ne0.true)))
+
+pub returns-then-refusal-ne0-clause-rest : goal.returns-then-refusal-ne0-clause-rest
+returns-then-refusal-ne0-clause-rest c = rw c.refused.ensures (refused_is_blank _)
 
 pub body_at-body-requires : goal.body_at-body-requires
 body_at-body-requires c =
@@ -65,10 +66,6 @@ loop-at-preserved c =
           (with_region_lem v c.loop-at-test.true accepted (λ h. w.if-tag-eq2.false (c.tag_at-tag.ensures ∙ h)))
     ]
 
-pub returns : goal.returns
+pub returns-clause-answer : goal.returns-clause-answer
 unfolding answer
-returns c =
-    let v = c.loop-at.invariant in record {
-      answer = sym (all_read v (omega arith));
-      rest = record { circles = v.circles_used; masks = v.masks_used; patterns = v.patterns_used; areas = v.areas_used; nothing = λ h. absurd (h refl) };
-    }
+returns-clause-answer c = sym (all_read c.loop-at.invariant (omega arith))

@@ -1,26 +1,24 @@
 -- `read_card` meets its contract: the fields, and then the values.
-use mathlib.Core.Path.{sym, ap, ◌∙◌}
+use mathlib.Core.Path.{sym, ◌∙◌}
 use Rattle.scope.specs.CardFile.{read_card}
 use Rattle.promises.proofs.saved.Cards.{cards-saved}
-use Rattle.card_file.specs.declared.cards.Card.{Card}
 use Rattle.card_file.proofs.FieldLaws.{refused-answer, given-answer}
 use Rattle.card_file.proofs.Filling.{refused_is_blank}
 use Rattle.card_file.proofs.Values.{stays-refused, with_values}
 use Rattle.card_file.proofs.cards.read_card.Goals as goal
 
-pub returns-then-card-ne0 : goal.returns-then-card-ne0
+pub returns-then-card-ne0-clause-answer : goal.returns-then-card-ne0-clause-answer
 unfolding read_card
-returns-then-card-ne0 c =
-    record { answer = stays-refused _ _ _ c.read_file-card.ensures.answer c.if-card-ne0.true; again = λ z. absurd (c.if-card-ne0.true z); rest = c.read_file-card.ensures.rest }
+returns-then-card-ne0-clause-answer c = stays-refused _ _ _ c.read_file-card.ensures.answer c.if-card-ne0.true
 
-pub returns-then-refusal-ne0 : goal.returns-then-refusal-ne0
+pub returns-then-refusal-ne0-clause-answer : goal.returns-then-refusal-ne0-clause-answer
 unfolding read_card
-returns-then-refusal-ne0 c =
-    let v = c.value_refusal-refusal.ensures in record {
-      answer = rw c.refused.ensures (refused-answer _ _ c.if-refusal-ne0.true ∙ sym (with_values _ _ _ c.read_file-card.ensures.answer c.if-card-ne0.false ∙ rw (← v) (refused-answer _ _ c.if-refusal-ne0.true)));
-      again = λ z. absurd (c.if-refusal-ne0.true (sym (ap (λ (card : Card). card.refusal) c.refused.ensures) ∙ z));
-      rest = rw c.refused.ensures (refused_is_blank _);
-    }
+returns-then-refusal-ne0-clause-answer c =
+    let v = c.value_refusal-refusal.ensures in
+    rw c.refused.ensures (refused-answer _ _ c.if-refusal-ne0.true ∙ sym (with_values _ _ _ c.read_file-card.ensures.answer c.if-card-ne0.false ∙ rw (← v) (refused-answer _ _ c.if-refusal-ne0.true)))
+
+pub returns-then-refusal-ne0-clause-rest : goal.returns-then-refusal-ne0-clause-rest
+returns-then-refusal-ne0-clause-rest c = rw c.refused.ensures (refused_is_blank _)
 
 pub returns : goal.returns
 unfolding read_card

@@ -7,17 +7,18 @@ use Rattle.card_file.proofs.Reading.{first_is_whole}
 use Rattle.scope.specs.Refusals.{refused}
 use Rattle.card_file.proofs.cards.read_file.Goals as goal
 
-pub returns-then-refusal-ne0 : goal.returns-then-refusal-ne0
-returns-then-refusal-ne0 c =
-    let k = c.first_refusal-refusal.ensures in record {
-      answer = rw c.refused.ensures (refused-answer _ _ c.if-refusal-ne0.true ∙ ap refused k ∙ sym (nothing_after _ (λ h. c.if-refusal-ne0.true (k ∙ h))));
-      rest = rw c.refused.ensures (refused_is_blank _);
-    }
+pub returns-then-refusal-ne0-clause-answer : goal.returns-then-refusal-ne0-clause-answer
+returns-then-refusal-ne0-clause-answer c =
+    let k = c.first_refusal-refusal.ensures in
+    rw c.refused.ensures (refused-answer _ _ c.if-refusal-ne0.true ∙ ap refused k ∙ sym (nothing_after _ (λ h. c.if-refusal-ne0.true (k ∙ h))))
+
+pub returns-then-refusal-ne0-clause-rest : goal.returns-then-refusal-ne0-clause-rest
+returns-then-refusal-ne0-clause-rest c = rw c.refused.ensures (refused_is_blank _)
 
 pub body_at-requires : goal.body_at-requires
 body_at-requires c = let a = c.args in body-inside a.file.now 0 (first_is_whole _ (sym c.first_refusal-refusal.ensures ∙ c.if-refusal-ne0.false))
 
-pub returns : goal.returns
-returns c =
+pub returns-clause-answer : goal.returns-clause-answer
+returns-clause-answer c =
     let whole = after_factor _ (sym c.first_refusal-refusal.ensures ∙ c.if-refusal-ne0.false) in
-    record { answer = c.later_fields.ensures.answer ∙ rw (c.float_of-factor.ensures, c.word_at.ensures, c.body_at.ensures.body) (sym whole); rest = c.later_fields.ensures.rest }
+    c.later_fields.ensures.answer ∙ rw (c.float_of-factor.ensures, c.word_at.ensures, c.body_at.ensures.body) (sym whole)

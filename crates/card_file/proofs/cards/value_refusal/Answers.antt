@@ -1,16 +1,9 @@
 -- `value_refusal` meets its contract: the words of its checks joined say what is refused of a layout's values.
-use mathlib.Core.Path.{sym, ◌∙◌}
+use mathlib.Core.Path.{◌∙◌}
 use mathlib.Core.List.{[], ◌∷◌}
 use Rattle.intake.proofs.CauseWords.{joined, number-says}
-use Rattle.card_file.proofs.Filling.{used_length}
 use Rattle.card_file.proofs.Values.{card_values}
 use Rattle.card_file.proofs.cards.value_refusal.Goals as goal
-
-pub slice_bounds-of_regions-end : goal.slice_bounds-of_regions-end
-slice_bounds-of_regions-end c = sym (used_length c.requires.masks)
-
-pub slice_bounds-of_regions-end-2 : goal.slice_bounds-of_regions-end-2
-slice_bounds-of_regions-end-2 c = sym (used_length c.requires.areas)
 
 pub returns : goal.returns
 returns c =
