@@ -14,7 +14,6 @@ pub mod Recentred
 pub mod Answered
 pub mod RunCalls
 pub mod ArrayCalls
-pub mod JoinCall
 pub mod PackedClusters
 pub mod WholeSteps
 pub mod FrontLayouts

@@ -5,7 +5,7 @@ use mathlib.Core.Path.{◌≡◌, refl, ap, ◌∙◌}
 use mathlib.Core.List.{List, [], ◌++◌, append-nil}
 use lib.Ieee.{Float, nan}
 use lib.ListN.{length, get_or, set, take, drop}
-use lib.Seq.{drop-length, get_or-take, length-take-le}
+use lib.Seq.{drop-length, get_or-set_same, get_or-take, length-take-le, set-set}
 use Rattle.shapes.specs.declared.circle.Circle.{Circle}
 use Rattle.scope.specs.Runs.{tab}
 use Rattle.scope.specs.Links.{circle, nowhere}
@@ -45,6 +45,17 @@ recentred_all n xs ys cs e long =
     (append-nil (tab n new) ∙ tab_equal n new (λ i. with_ink (get_or (inks cs) i 0) (circle shown i))
     (λ i h. rw (shown_at (take n xs) (take n ys) (radii_of cs) i (rw long h), get_or-take n xs i nan h, get_or-take n ys i nan h, radius_at cs i (omega arith), ink_at_lem cs i)))
 
+-- ---- one circle's centre, written as two numbers
+pub twice_written : (m : List Circle) (i : ℕ) (x y : Float) → i < length m
+    → (let c = get_or m i nowhere in
+    let m' = set m i (circle_of x c.center.y c.radius c.ink) in
+    let c' = get_or m' i nowhere in
+    set m' i (circle_of c'.center.x y c'.radius c'.ink) ≡ set m i (circle_of x y c.radius c.ink))
+twice_written m i x y h =
+    let c = get_or m i nowhere in
+    let c' = circle_of x c.center.y c.radius c.ink in
+    rw (get_or-set_same m i c' nowhere h) (set-set m i c' (circle_of x y c.radius c.ink))
+
 -- ---- the loop that writes them: the run after i turns, and at the end
 module _ (xs ys : List Float) where
   -- a circle at the centre of place i
@@ -72,3 +83,10 @@ module _ (xs ys : List Float) where
   reached_all cs n h =
       let first = tab_equal n (λ k. recentre k (circle (take n cs) k)) (λ k. recentre k (circle cs k)) (λ k hk. ap (recentre k) (get_or-take n cs k nowhere hk)) in
       all_rewritten recentre nowhere cs n n h (omega arith) (omega arith) refl ∙ rw (length-take-le n cs h) (ap {B = List Circle} (λ l. l ++ drop n cs) first)
+
+  pub reached_twice : (cs : List Circle) (i : ℕ) {m : List Circle} → i < length cs → m ≡ reached cs i
+      → (let c = get_or m i nowhere in
+      let m' = set m i (circle_of (at xs i) c.center.y c.radius c.ink) in
+      let c' = get_or m' i nowhere in
+      set m' i (circle_of c'.center.x (at ys i) c'.radius c'.ink) ≡ reached cs (i + 1))
+  reached_twice cs i h e = rw e (twice_written (reached cs i) i (at xs i) (at ys i) (reached_within cs i h) ∙ reached_next cs i h)

@@ -1,0 +1,6 @@
+-- `centre` meets its contract.
+use borrow.Author.Rules.{rules}
+use Rattle.layout.proofs.axis.centre.Goals as goal
+
+pub returns : goal.returns
+returns c = rw (c.to_origin.ensures, c.range_of.ensures)

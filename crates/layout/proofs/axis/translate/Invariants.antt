@@ -1,0 +1,16 @@
+-- `translate` meets its contract, number by number.
+use Prim.Native.Nat.{◌-◌, ◌≤◌}
+use native.Mathlib.Omega.{arith}
+use mathlib.Core.Path.{◌≡◌, refl}
+use lib.ListN.{length, length-set}
+use lib.Ieee.{nan}
+use Rattle.scope.specs.Numbers.{◌+ᶠ◌}
+use Rattle.intake.proofs.Columns.{whole_rewritten}
+use Rattle.intake.proofs.InPlace.{so_far, none_rewritten, one_rewritten}
+use Rattle.layout.proofs.axis.translate.Given as goal
+
+abbrev pub invariant-loop-i : goal.invariant-loop-i
+invariant-loop-i l = (l.i ≤ length l.initial.coords) × (length l.coords ≡ length l.initial.coords) × (l.coords ≡ so_far (λ k x. x +ᶠ l.d) nan l.i l.initial.coords)
+
+abbrev pub decreases-loop-i : goal.decreases-loop-i
+decreases-loop-i l = length l.initial.coords - l.i

@@ -1,0 +1,6 @@
+-- `widened` meets its contract.
+use borrow.Author.Rules.{rules}
+use Rattle.layout.proofs.axis.widened.Goals as goal
+
+pub returns : goal.returns
+returns c = rw (c.minimum.ensures, c.maximum.ensures)

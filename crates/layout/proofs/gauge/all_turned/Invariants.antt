@@ -1,0 +1,22 @@
+-- `all_turned` meets its contract, circle by circle.
+use Prim.Native.Nat.{◌-◌, ◌≤◌}
+use native.Mathlib.Omega.{arith}
+use borrow.Author.Rules.{rules}
+use mathlib.Core.Path.{◌≡◌, refl, ap, ◌∙◌}
+use mathlib.Core.Bool.{cond}
+use mathlib.Core.Logic.{⊎_elim}
+use lib.ListN.{length, length-set}
+use lib.Ieee.{nan}
+use Rattle.scope.specs.Gauge.{in_cluster}
+use Rattle.intake.specs.Columns.{at}
+use Rattle.intake.proofs.Columns.{whole_rewritten, untouched}
+use Rattle.intake.proofs.InPlace.{so_far, none_rewritten, one_rewritten, one_left}
+use Rattle.layout.specs.Turns.{as_turn, turned_x, turned_y}
+use Rattle.layout.proofs.Members.{is_member, is_other}
+use Rattle.layout.proofs.gauge.all_turned.Given as goal
+
+abbrev pub invariant-loop-i : goal.invariant-loop-i
+invariant-loop-i l = (l.i ≤ length l.initial.xs) × (length l.numbers ≡ length l.initial.xs) × (length l.initial.ys ≡ length l.initial.xs) × ((length l.xs ≡ length l.initial.xs) × (length l.ys ≡ length l.initial.ys) × (l.xs ≡ so_far (λ k x. cond (in_cluster l.numbers l.a k) (turned_x (as_turn l.t) l.p l.q x (at l.initial.ys k)) x) nan l.i l.initial.xs) × (l.ys ≡ so_far (λ k y. cond (in_cluster l.numbers l.a k) (turned_y (as_turn l.t) l.p l.q (at l.initial.xs k) y) y) nan l.i l.initial.ys))
+
+abbrev pub decreases-loop-i : goal.decreases-loop-i
+decreases-loop-i l = length l.initial.xs - l.i

@@ -1,0 +1,8 @@
+-- `contains_at` meets its contract, step by step.
+use borrow.Author.Rules.{rules}
+use Rattle.scope.specs.Offset.{contains_at}
+use Rattle.layout.proofs.offset.contains_at.Goals as goal
+
+pub returns : goal.returns
+unfolding contains_at
+returns c = rw (c.contains.ensures, c.child_at.ensures)

@@ -1,0 +1,19 @@
+-- `find_parents` meets its contract: the parents of the first i circles stand in the list, and while `any` is false none of them has one.
+use Prim.Native.Nat.{◌-◌, ◌<◌, ℕ, ◌≤◌}
+use native.Mathlib.Omega.{arith}
+use mathlib.Core.Bool.{false, false≢true}
+use mathlib.Core.Logic.{⊎_elim}
+use mathlib.Core.Option.{none}
+use mathlib.Core.Path.{refl, sym, ◌∙◌, ◌≡◌}
+use lib.ListN.{length, length-set}
+use Rattle.scope.specs.Links.{regions}
+use Rattle.scope.specs.Offset.{parent_of}
+use Rattle.layout.specs.Offsets.{numbered, parent_at}
+use Rattle.layout.proofs.ChildParents.{at_tolerance, numbered_past, one_more-number}
+use Rattle.layout.proofs.offset.find_parents.Given as goal
+
+abbrev pub invariant-loop-i : goal.invariant-loop-i
+invariant-loop-i l = (l.i ≤ l.n) × (length l.parents ≡ l.n) × ((j : ℕ) → j < l.i → parent_at l.n l.parents j ≡ parent_of l.n (regions l.masks l.areas) j) × (l.any ≡ false → (j : ℕ) → j < l.i → parent_at l.n l.parents j ≡ none)
+
+abbrev pub decreases-loop-i : goal.decreases-loop-i
+decreases-loop-i l = l.n - l.i

@@ -1,0 +1,7 @@
+-- `only` meets its contract: a power of two below 2^64 is not cut.
+use borrow.Author.Rules.{rules}
+use Rattle.laws.proofs.PackedRows.{single_shifted}
+use Rattle.layout.proofs.offset.only.Goals as goal
+
+pub returns : goal.returns
+returns c = single_shifted 64 _ c.requires

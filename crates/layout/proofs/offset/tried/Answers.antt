@@ -1,0 +1,59 @@
+-- `tried` meets its contract: each way out knows what the parent is, whether it has one child, and where that goes.
+use Prim.Native.Nat.{◌+◌, ◌^◌}
+use mathlib.Core.List.{List}
+use mathlib.Core.Option.{some}
+use mathlib.Core.Path.{ap, sym, ◌∙◌, ◌≡◌}
+use lib.ListN.{length}
+use borrow.Author.Rules.{rules}
+use Rattle.shapes.specs.declared.circle.Circle.{Circle}
+use Rattle.scope.specs.Links.{Region}
+use Rattle.scope.specs.Offset.{only_child, parents, tried}
+use Rattle.intake.specs.Columns.{circles_of}
+use Rattle.layout.specs.Offsets.{numbered, moment, parent_at, ParentsOf}
+use Rattle.layout.proofs.ChildParents.{numbered_below, numbered_past, only_child_lem}
+use Rattle.layout.proofs.OffsetMoves.{child-moved, moved_known, stays_known, tried_left, tried-moved, tried-none, tried-stays}
+use Rattle.layout.proofs.offset.tried.Goals as goal
+
+pub returns-then-p-xs : goal.returns-then-p-xs
+returns-then-p-xs c =
+    let a = c.args in
+    let n = length a.xs.now in
+    let none_read = sym (ap (numbered n) (sym c.wide-p.ensures) ∙ numbered_past n _ c.if-p-xs.true) in
+    λ rs mask shows.
+    let s = moment (circles_of a.xs.now a.ys.now a.radii.now) mask in
+    tried-none (parents n rs) s a.i ∙ ap (tried (parents n rs) s a.i) none_read
+
+pub returns-then-not-only_child : goal.returns-then-not-only_child
+returns-then-not-only_child c =
+    let a = c.args in
+    let n = length a.xs.now in
+    let p = c.wide-p.result in
+    λ rs mask shows.
+    let s = moment (circles_of a.xs.now a.ys.now a.radii.now) mask in
+    let more = sym (rw c.requires.2 at c.only_child.ensures ∙ only_child_lem _ rs a.parents.now shows _) ∙ c.if-not-only_child.true in
+    tried_left (parents n rs) s a.i p more ∙ ap (tried (parents n rs) s a.i) (sym (numbered_below _ _ c.if-p-xs.false) ∙ ap (numbered _) c.wide-p.ensures)
+
+pub returns-in-To : goal.returns-in-To
+returns-in-To c =
+    let a = c.args in
+    let n = length a.xs.now in
+    let p = c.wide-p.result in
+    let to = c.in-To.c in
+    let goes = c.in-To.ensures in
+    λ rs mask shows.
+    let s = moment (circles_of a.xs.now a.ys.now a.radii.now) mask in
+    let single = sym (rw c.requires.2 at c.only_child.ensures ∙ only_child_lem _ rs a.parents.now shows _) ∙ c.if-not-only_child.false in
+    ap (λ (cs : List Circle). moment cs (mask + 2 ^ a.i)) (child-moved a.xs.now a.ys.now a.radii.now p a.i to c.requires.0 c.requires.3 c.requires.4 goes)
+    ∙ tried-moved (parents n rs) s a.i p to single goes
+    ∙ ap (tried (parents n rs) s a.i) (sym (numbered_below _ _ c.if-p-xs.false) ∙ ap (numbered _) c.wide-p.ensures)
+
+pub returns-in-Stays : goal.returns-in-Stays
+returns-in-Stays c =
+    let a = c.args in
+    let n = length a.xs.now in
+    let p = c.wide-p.result in
+    let stays = c.in-Stays.ensures in
+    λ rs mask shows.
+    let s = moment (circles_of a.xs.now a.ys.now a.radii.now) mask in
+    let single = sym (rw c.requires.2 at c.only_child.ensures ∙ only_child_lem _ rs a.parents.now shows _) ∙ c.if-not-only_child.false in
+    tried-stays (parents n rs) s a.i p single stays ∙ ap (tried (parents n rs) s a.i) (sym (numbered_below _ _ c.if-p-xs.false) ∙ ap (numbered _) c.wide-p.ensures)

@@ -1,0 +1,12 @@
+-- `is_near` meets its contract.
+use borrow.Author.Rules.{rules}
+use Rattle.scope.specs.Numbers.{e_12}
+use Rattle.layout.proofs.settling.is_near.Goals as goal
+
+pub returns-then-absolute : goal.returns-then-absolute
+unfolding e_12
+returns-then-absolute c = rw (← c.absolute.ensures, c.if-absolute.true, ← c.absolute-then-absolute.ensures)
+
+pub returns-else-absolute : goal.returns-else-absolute
+unfolding e_12
+returns-else-absolute c = rw (← c.absolute.ensures, c.if-absolute.false)
