@@ -20,7 +20,7 @@ pub loop-i-preserved : goal.loop-i-preserved
 unfolding nowhere
 loop-i-preserved c =
     let l = c.loop-i in
-    (omega arith, l.invariant.1, l.invariant.2, c.union-next.ensures ∙ rw (l.invariant.3, c.bounds.ensures) (first_box_next c.args.t1 l.i))
+    (omega arith, l.invariant.1, l.invariant.2, c.union-next.ensures ∙ rw (l.invariant.3, c.bounds.ensures) (first_box_next c.args.circles l.i))
 
 pub returns : goal.returns
 returns c =
