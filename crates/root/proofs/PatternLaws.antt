@@ -7,7 +7,6 @@ use native.Mathlib.Nat.{mul-one, mod-eq_of_lt}
 use native.Mathlib.Omega.{arith}
 use lib.Dec.{T, leb, eqb, eqb→eq, nltb→le}
 use lib.Arith.{lt→nleb, le→nltb}
-use lib.Pow as pow
 use lib.Ieee.{Float, nan, inf, fin, binary64, odd, of_fields, of_bits, is_nan, nan_bits, fits}
 use lib.Ieee.Bits.{is_false, nan_bits_is, nan_bits_above}
 use lib.Ieee.Exact.{HasValue, odd_sign}

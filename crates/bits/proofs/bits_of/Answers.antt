@@ -1,7 +1,6 @@
 -- `bits_of` meets its contract.
 use mathlib.Core.Path.{◌∙◌}
 use lib.Ieee.{of_bits}
-use borrow.Author.Rules.{rules}
 use Rattle.scope.specs.Print.{bits_of}
 use Rattle.bits.proofs.bits_of.Goals as goal
 

@@ -5,7 +5,6 @@ use Prim.Native.Nat.{ℕ, ◌%◌, ◌/◌}
 use lib.Dec.{T, eqb}
 use lib.Ieee.{inf, nan, binary64, of_fields, of_bits, nan_bits}
 use Rattle.scope.specs.CardFile.{float_of}
-use borrow.Author.Rules.{rules}
 use borrow.Author.Tests.{eq-eqb, ne_eqb}
 use Rattle.bits.proofs.float_of.Goals as goal
 

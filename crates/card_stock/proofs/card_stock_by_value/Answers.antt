@@ -1,5 +1,4 @@
 -- `card_stock_by_value` meets its contract: the layout's number or the price's, and else what the sheet of the finished circles costs.
-use borrow.Author.Rules.{rules}
 use Rattle.layout.specs.Answers.{laid_out}
 use Rattle.card_stock.proofs.Doubles.{each_double}
 use Rattle.card_stock.proofs.FirstStocks.{stock_refused, stock_allowed, stock_accepted}

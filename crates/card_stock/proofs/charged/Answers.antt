@@ -1,6 +1,5 @@
 -- `charged` meets its contract: the charge for an array of the circles that the four arrays show.
 use mathlib.Core.Path.{◌∙◌}
-use borrow.Author.Rules.{rules}
 use Rattle.card_stock.proofs.Joining.{joined_stock}
 use Rattle.card_stock.proofs.charged.Goals as goal
 

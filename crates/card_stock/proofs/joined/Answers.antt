@@ -1,14 +1,10 @@
 -- `joined` meets its contract, circle by circle.
-use Prim.Native.Nat.{◌-◌, ◌≤◌}
 use native.Mathlib.Omega.{arith}
 use mathlib.Core.Path.{◌≡◌, refl}
-use borrow.Author.Rules.{rules}
-use lib.ListN.{length, length-set}
+use lib.ListN.{length-set}
 use Rattle.scope.specs.Links.{nowhere}
-use Rattle.intake.specs.Limits.{max_circles}
-use Rattle.packing.specs.Lists.{At}
 use Rattle.packing.proofs.Arrays.{at_none, at_more}
-use Rattle.card_stock.proofs.Joining.{circle_at, joined_in_front}
+use Rattle.card_stock.proofs.Joining.{joined_in_front}
 use Rattle.card_stock.proofs.joined.Goals as goal
 
 pub loop-i-init : goal.loop-i-init

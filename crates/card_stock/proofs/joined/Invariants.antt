@@ -1,14 +1,11 @@
 -- `joined` meets its contract, circle by circle.
 use Prim.Native.Nat.{◌-◌, ◌≤◌}
-use native.Mathlib.Omega.{arith}
-use mathlib.Core.Path.{◌≡◌, refl}
-use borrow.Author.Rules.{rules}
-use lib.ListN.{length, length-set}
+use mathlib.Core.Path.{◌≡◌}
+use lib.ListN.{length}
 use Rattle.scope.specs.Links.{nowhere}
 use Rattle.intake.specs.Limits.{max_circles}
 use Rattle.packing.specs.Lists.{At}
-use Rattle.packing.proofs.Arrays.{at_none, at_more}
-use Rattle.card_stock.proofs.Joining.{circle_at, joined_in_front}
+use Rattle.card_stock.proofs.Joining.{circle_at}
 use Rattle.card_stock.proofs.joined.Given as goal
 
 abbrev pub invariant-loop-i : goal.invariant-loop-i

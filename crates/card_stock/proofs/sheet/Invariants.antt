@@ -1,15 +1,9 @@
 -- `sheet` meets its contract, circle by circle.
 use Prim.Native.Nat.{◌-◌, ◌≤◌}
-use native.Mathlib.Omega.{arith}
-use mathlib.Core.Path.{◌≡◌, ◌∙◌}
-use borrow.Author.Rules.{rules}
+use mathlib.Core.Path.{◌≡◌}
 use lib.ListN.{length}
-use lib.Ieee.{div, neg, of_bits}
-use Rattle.scope.specs.Links.{nowhere}
-use Rattle.scope.specs.Gauge.{nothing}
-use Rattle.scope.specs.Runs.{gather}
 use Rattle.intake.specs.Limits.{max_circles}
-use Rattle.card_stock.proofs.Sheets.{first_box, first_box_next, first-box_all}
+use Rattle.card_stock.proofs.Sheets.{first_box}
 use Rattle.card_stock.proofs.sheet.Given as goal
 
 abbrev pub invariant-loop-i : goal.invariant-loop-i

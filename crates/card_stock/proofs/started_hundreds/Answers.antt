@@ -1,5 +1,4 @@
 -- `started_hundreds` meets its contract.
-use borrow.Author.Rules.{rules}
 use mathlib.Core.Path.{refl}
 use Rattle.scope.specs.CardStock.{started_hundreds}
 use Rattle.card_stock.proofs.started_hundreds.Goals as goal

@@ -2,7 +2,7 @@
 use Prim.Native.Nat.{◌*◌, ◌^◌, ◌≤◌, ◌<◌}
 use native.Mathlib.Omega.{arith}
 use mathlib.Core.Path.{◌∙◌}
-use lib.ListN.{length, take}
+use lib.ListN.{take}
 use lib.Seq.{length-take-le}
 use Rattle.scope.specs.CardStock.{started_hundreds}
 use Rattle.promises.specs.CardStock.{area_most}

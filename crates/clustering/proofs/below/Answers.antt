@@ -1,7 +1,6 @@
 -- `below` meets its contract.
 use native.Mathlib.Omega.{arith}
 use mathlib.Core.Path.{◌≡◌}
-use borrow.Author.Rules.{rules}
 use lib.Pow.{pow_pos}
 use Rattle.laws.proofs.PackedRows.{single_shifted}
 use Rattle.intake.specs.Limits.{max_circles}

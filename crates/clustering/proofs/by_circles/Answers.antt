@@ -1,7 +1,6 @@
 -- `by_circles` meets its contract: links, closure and numbers in turn.
 use native.Mathlib.Omega.{arith}
 use lib.ListN.{length}
-use borrow.Author.Rules.{rules}
 use Rattle.scope.specs.Links.{linked_by_circles}
 use Rattle.scope.specs.Closure.{marked, closure}
 use Rattle.scope.specs.Groups.{plain_clusters}

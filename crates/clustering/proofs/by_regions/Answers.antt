@@ -1,7 +1,6 @@
 -- `by_regions` meets its contract: links, closure and numbers in turn.
 use native.Mathlib.Omega.{arith}
 use mathlib.Core.Bool.{false}
-use borrow.Author.Rules.{rules}
 use Rattle.scope.specs.Links.{regions, linked_by_regions}
 use Rattle.scope.specs.Closure.{marked, at, closure}
 use Rattle.scope.specs.Groups.{clusters}

@@ -1,5 +1,4 @@
 -- `close` meets its contract: the table is packed, closed in words and unpacked.
-use borrow.Author.Rules.{rules}
 use Rattle.scope.specs.Closure.{at, closure}
 use Rattle.clustering.proofs.close.Goals as goal
 

@@ -1,9 +1,7 @@
 -- `close_rows` meets its contract: the rows before i are closed.
 use Prim.Native.Nat.{◌-◌, ◌≤◌}
-use native.Mathlib.Omega.{arith}
 use Rattle.scope.specs.Closure.{Marks, at}
 use Rattle.clustering.specs.Table.{Holds, closed_to}
-use Rattle.clustering.proofs.Growing.{none_closed, row_closed, all_closed}
 use Rattle.clustering.proofs.close_rows.Given as goal
 
 abbrev pub invariant-loop-i : goal.invariant-loop-i

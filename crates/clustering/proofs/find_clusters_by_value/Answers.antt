@@ -4,7 +4,6 @@ use native.Mathlib.Omega.{arith}
 use mathlib.Core.Path.{◌∙◌}
 use lib.ListN.{length, take}
 use lib.Seq.{length-take-le}
-use borrow.Author.Rules.{rules}
 use Rattle.scope.specs.Limits.{circle_cap}
 use Rattle.laws.proofs.Counted.{few}
 use Rattle.clustering.proofs.PlainClusters.{split-grouping}

@@ -1,7 +1,6 @@
 -- `find_clusters_from_exclusive_regions` meets its contract: the refusal, or the clusters.
 use mathlib.Core.Path.{sym, ap, ◌∙◌}
 use mathlib.Core.List.{[], ◌∷◌}
-use borrow.Author.Rules.{rules}
 use Rattle.scope.specs.Limits.{circle_cap}
 use Rattle.scope.specs.Refusals.{regions_refusal}
 use Rattle.scope.specs.Groups.{refused_grouping}

@@ -1,12 +1,11 @@
 -- `give` meets its contract: the places before j have been written.
-use Prim.Native.Nat.{ℕ, ◌-◌, ◌≤◌}
 use native.Mathlib.Omega.{arith}
 use mathlib.Core.Path.{◌≡◌}
 use Rattle.std.proofs.Common.{eq-eqb, ne_eqb}
-use mathlib.Core.Bool.{Bool, not, cond}
+use mathlib.Core.Bool.{not, cond}
 use lib.Dec.{eqb}
 use lib.ListN.{get_or}
-use Rattle.clustering.specs.Table.{cell, Shows, Given}
+use Rattle.clustering.specs.Table.{cell}
 use Rattle.clustering.proofs.Numbering.{given-none, given_next, given_all, shown_test}
 use Rattle.clustering.proofs.give.Goals as goal
 use Rattle.clustering.proofs.give.Goals.{then-marked, else-marked, then-marked-2, else-marked-2}

@@ -1,13 +1,7 @@
 -- `give` meets its contract: the places before j have been written.
 use Prim.Native.Nat.{ℕ, ◌-◌, ◌≤◌}
-use native.Mathlib.Omega.{arith}
-use mathlib.Core.Path.{◌≡◌}
-use mathlib.Core.Logic.{⊎_elim}
-use mathlib.Core.Bool.{Bool, not, cond}
-use lib.Dec.{eqb}
-use lib.ListN.{get_or}
-use Rattle.clustering.specs.Table.{cell, Shows, Given}
-use Rattle.clustering.proofs.Numbering.{given-none, given_next, given_all, shown_test}
+use mathlib.Core.Bool.{Bool}
+use Rattle.clustering.specs.Table.{Shows, Given}
 use Rattle.clustering.proofs.give.Given as goal
 
 abbrev pub invariant-loop-j : goal.invariant-loop-j

@@ -1,13 +1,7 @@
 -- `grown` meets its contract: all that the row holds is reached from i, and it holds the links of each place that has been joined to it.
-use Prim.Native.Nat.{ℕ, ◌≤◌, ◌<◌}
 use native.Mathlib.Omega.{arith}
-use mathlib.Core.Logic.{⊎_elim}
-use borrow.Author.Rules.{rules}
-use Rattle.scope.specs.Closure.{Marks}
 use Rattle.laws.proofs.PackedRows.{single_shifted}
-use Rattle.intake.specs.Limits.{max_circles}
-use Rattle.clustering.specs.Table.{Holds, closed_to}
-use Rattle.clustering.proofs.Growing.{Left, Growing, left_all, left_new, places_left, fewer_left, fewer_left_still, grown-start, grown-row, grown_closed, grown_end}
+use Rattle.clustering.proofs.Growing.{left_all, left_new, fewer_left, fewer_left_still, grown-start, grown-row, grown_closed, grown_end}
 use Rattle.clustering.proofs.grown.Goals as goal
 use Rattle.clustering.proofs.grown.Goals.{then-k-i, else-k-i}
 

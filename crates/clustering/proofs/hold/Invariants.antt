@@ -1,14 +1,11 @@
 -- `hold` meets its contract: the mask has been joined to the rows of its circles but those of `rest`.
 use Prim.Native.Nat.{ℕ, ◌≤◌}
-use native.Mathlib.Omega.{arith}
 use mathlib.Core.Path.{◌≡◌}
 use mathlib.Core.Bool.{Bool, true, false}
-use borrow.Author.Rules.{rules}
 use Rattle.scope.specs.Runs.{bit}
 use Rattle.intake.specs.Limits.{max_circles}
 use Rattle.clustering.specs.Table.{Holds}
-use Rattle.clustering.proofs.Places.{still_places}
-use Rattle.clustering.proofs.Rows.{joined_but, mask_start, mask_step, mask_end}
+use Rattle.clustering.proofs.Rows.{joined_but}
 use Rattle.clustering.proofs.hold.Given as goal
 
 abbrev pub invariant-loop-rest : goal.invariant-loop-rest

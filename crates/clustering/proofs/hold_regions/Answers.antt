@@ -1,11 +1,7 @@
 -- `hold_regions` meets its contract: the rows hold the links of the first k regions.
-use Prim.Native.Nat.{◌-◌, ◌≤◌}
 use native.Mathlib.Omega.{arith}
 use mathlib.Core.Path.{sym, ◌∙◌}
-use mathlib.Core.Logic.{⊎_elim}
-use lib.ListN.{length, get_or}
-use borrow.Author.Rules.{rules}
-use Rattle.clustering.specs.Table.{Holds}
+use lib.ListN.{get_or}
 use Rattle.clustering.proofs.Linking.{first_links, no_links, links_taken, links_left, all_links, cut_mask}
 use Rattle.clustering.proofs.hold_regions.Goals as goal
 use Rattle.clustering.proofs.hold_regions.Goals.{then-exceeds, else-exceeds}
@@ -22,8 +18,11 @@ loop-k-preserved c =
     let circles = c.below-circles.ensures in
     let e = sym c.exceeds.ensures in (
       omega arith,
-      elim c.if-exceeds.branch [ then-exceeds w ↦ rw w.rows-is (links_taken _ _ _ p.1 _ h _ _ circles (e ∙ w.if-exceeds.true)
-          (w.hold.ensures a.n (first_links _ a.masks.now a.areas.now l.k) p.0 l.invariant.1 (λ j out. cut_mask _ _ (get_or a.masks.now l.k 0) j circles out))) | else-exceeds w ↦ rw w.rows-is (links_left _ _ _ p.1 _ h _ (e ∙ w.if-exceeds.false) l.invariant.1) ],
+      elim c.if-exceeds.branch [
+        | then-exceeds w ↦ rw w.rows-is (links_taken _ _ _ p.1 _ h _ _ circles (e ∙ w.if-exceeds.true)
+            (w.hold.ensures a.n (first_links _ a.masks.now a.areas.now l.k) p.0 l.invariant.1 (λ j out. cut_mask _ _ (get_or a.masks.now l.k 0) j circles out)))
+        | else-exceeds w ↦ rw w.rows-is (links_left _ _ _ p.1 _ h _ (e ∙ w.if-exceeds.false) l.invariant.1)
+      ],
     )
 
 pub returns : goal.returns

@@ -1,12 +1,8 @@
 -- `hold_regions` meets its contract: the rows hold the links of the first k regions.
 use Prim.Native.Nat.{◌-◌, ◌≤◌}
-use native.Mathlib.Omega.{arith}
-use mathlib.Core.Path.{sym, ◌∙◌}
-use mathlib.Core.Logic.{⊎_elim}
-use lib.ListN.{length, get_or}
-use borrow.Author.Rules.{rules}
+use lib.ListN.{length}
 use Rattle.clustering.specs.Table.{Holds}
-use Rattle.clustering.proofs.Linking.{first_links, no_links, links_taken, links_left, all_links, cut_mask}
+use Rattle.clustering.proofs.Linking.{first_links}
 use Rattle.clustering.proofs.hold_regions.Given as goal
 
 abbrev pub invariant-loop-k : goal.invariant-loop-k

@@ -1,6 +1,5 @@
 -- `in_front` meets its contract: the clusters of the first n circles.
 use native.Mathlib.Nat.{sub-zero}
-use borrow.Author.Rules.{rules}
 use Rattle.clustering.proofs.in_front.Goals as goal
 
 pub returns : goal.returns

@@ -1,16 +1,10 @@
 -- `link_circles` meets its contract. Whether two circles overlap does not depend on their order, so row i may be copied from the rows before it.
 use Prim.Native.Nat.{◌-◌, ◌≤◌}
-use native.Mathlib.Omega.{arith}
-use mathlib.Core.Path.{◌≡◌, refl, sym, ◌∙◌}
-use mathlib.Core.Logic.{⊎_elim}
-use borrow.Author.Rules.{rules}
 use lib.Dec.{eqb}
-use Rattle.scope.specs.Links.{linked_by_circles}
 use Rattle.laws.proofs.Clusters.{meet}
 use Rattle.intake.specs.Columns.{circles_of}
 use Rattle.clustering.specs.Table.{Shows}
-use Rattle.clustering.proofs.Table.{along, down, along-start, along_taken, along_left, down-start, down_taken, down_end}
-use Rattle.clustering.proofs.Linking.{met_before}
+use Rattle.clustering.proofs.Table.{along, down}
 use Rattle.clustering.proofs.link_circles.Given as goal
 
 abbrev pub invariant-loop-j : goal.invariant-loop-j

@@ -1,8 +1,6 @@
 -- `link_selves` meets its contract, circle by circle.
-use Prim.Native.Nat.{◌-◌, ◌≤◌}
 use native.Mathlib.Omega.{arith}
 use lib.Dec.{eqb}
-use Rattle.clustering.specs.Table.{Shows}
 use Rattle.clustering.proofs.Table.{shows_same}
 use Rattle.clustering.proofs.Linking.{diagonal, diagonal-empty, diagonal-whole, diagonal-step}
 use Rattle.clustering.proofs.link_selves.Goals as goal

@@ -1,15 +1,10 @@
 -- `numbered` meets its contract: the clusters whose smallest circle comes before i have their number, and their circles are marked as seen.
-use Prim.Native.Nat.{◌-◌, ◌≤◌}
 use native.Mathlib.Omega.{arith}
-use mathlib.Core.Path.{◌≡◌, refl, ◌∙◌}
-use mathlib.Core.Logic.{⊎_elim}
-use lib.ListN.{length}
+use mathlib.Core.Path.{refl, ◌∙◌}
 use Rattle.scope.specs.Limits.{circle_cap}
-use Rattle.scope.specs.Closure.{Marks, at}
-use Rattle.laws.proofs.Closure.{Equivalence}
+use Rattle.scope.specs.Closure.{at}
 use Rattle.intake.specs.Limits.{max_circles}
-use Rattle.clustering.specs.Table.{Shows}
-use Rattle.clustering.proofs.Numbering.{Numbered, numbered-none, numbered_old, numbered_new, numbered_all}
+use Rattle.clustering.proofs.Numbering.{numbered-none, numbered_old, numbered_new, numbered_all}
 use Rattle.clustering.proofs.numbered.Goals as goal
 use Rattle.clustering.proofs.numbered.Goals.{then-seen-i-eq0, else-seen-i-eq0}
 
@@ -20,14 +15,17 @@ pub loop-i-preserved : goal.loop-i-preserved
 loop-i-preserved c =
     let l = c.loop-i in
     let hi = c.loop-i-test.true in
-    elim c.if-seen-i-eq0.branch [ then-seen-i-eq0 w ↦ rw (w.count-is, w.numbers-is, w.seen-is) (
-      omega arith,
-      omega arith,
-      λ t s e.
-          let g = l.invariant.2 t s e in
-          let given = w.give.ensures (at t) s in
-          (given.0.long ∙ g.0, given.1.long ∙ g.1, numbered_new _ t e _ hi g.2 (omega arith) (omega arith) w.if-seen-i-eq0.true given.0 given.1),
-    ) | else-seen-i-eq0 w ↦ rw (w.count-is, w.numbers-is, w.seen-is) (omega arith, omega arith, λ t s e. let g = l.invariant.2 t s e in (g.0, g.1, numbered_old _ t e _ hi g.2 w.if-seen-i-eq0.false)) ]
+    elim c.if-seen-i-eq0.branch [
+      | then-seen-i-eq0 w ↦ rw (w.count-is, w.numbers-is, w.seen-is) (
+        omega arith,
+        omega arith,
+        λ t s e.
+            let g = l.invariant.2 t s e in
+            let given = w.give.ensures (at t) s in
+            (given.0.long ∙ g.0, given.1.long ∙ g.1, numbered_new _ t e _ hi g.2 (omega arith) (omega arith) w.if-seen-i-eq0.true given.0 given.1),
+      )
+      | else-seen-i-eq0 w ↦ rw (w.count-is, w.numbers-is, w.seen-is) (omega arith, omega arith, λ t s e. let g = l.invariant.2 t s e in (g.0, g.1, numbered_old _ t e _ hi g.2 w.if-seen-i-eq0.false))
+    ]
 
 pub returns : goal.returns
 unfolding circle_cap

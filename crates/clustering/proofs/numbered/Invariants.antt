@@ -1,15 +1,12 @@
 -- `numbered` meets its contract: the clusters whose smallest circle comes before i have their number, and their circles are marked as seen.
 use Prim.Native.Nat.{◌-◌, ◌≤◌}
-use native.Mathlib.Omega.{arith}
-use mathlib.Core.Path.{◌≡◌, refl, ◌∙◌}
-use mathlib.Core.Logic.{⊎_elim}
+use mathlib.Core.Path.{◌≡◌}
 use lib.ListN.{length}
-use Rattle.scope.specs.Limits.{circle_cap}
 use Rattle.scope.specs.Closure.{Marks, at}
 use Rattle.laws.proofs.Closure.{Equivalence}
 use Rattle.intake.specs.Limits.{max_circles}
 use Rattle.clustering.specs.Table.{Shows}
-use Rattle.clustering.proofs.Numbering.{Numbered, numbered-none, numbered_old, numbered_new, numbered_all}
+use Rattle.clustering.proofs.Numbering.{Numbered}
 use Rattle.clustering.proofs.numbered.Given as goal
 
 abbrev pub invariant-loop-i : goal.invariant-loop-i

@@ -1,6 +1,5 @@
 -- `overlap` meets its contract: what is said of the distance and the radii is said of the circles.
 use mathlib.Core.Path.{refl, ◌∙◌}
-use borrow.Author.Rules.{rules}
 use Rattle.geometry.proofs.Meeting.{meeting_is_overlap}
 use Rattle.clustering.proofs.overlap.Goals as goal
 

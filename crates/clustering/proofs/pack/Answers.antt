@@ -1,10 +1,6 @@
 -- `pack` meets its contract, row by row.
-use Prim.Native.Nat.{ℕ, ◌-◌, ◌≤◌}
 use native.Mathlib.Omega.{arith}
-use mathlib.Core.Bool.{Bool}
-use borrow.Author.Rules.{rules}
-use Rattle.clustering.specs.Table.{Shows}
-use Rattle.clustering.proofs.Packing.{HeldTo, held_start, held_more, held_end}
+use Rattle.clustering.proofs.Packing.{held_start, held_more, held_end}
 use Rattle.clustering.proofs.pack.Goals as goal
 
 pub loop-i-init : goal.loop-i-init

@@ -1,10 +1,8 @@
 -- `pack` meets its contract, row by row.
 use Prim.Native.Nat.{ℕ, ◌-◌, ◌≤◌}
-use native.Mathlib.Omega.{arith}
 use mathlib.Core.Bool.{Bool}
-use borrow.Author.Rules.{rules}
 use Rattle.clustering.specs.Table.{Shows}
-use Rattle.clustering.proofs.Packing.{HeldTo, held_start, held_more, held_end}
+use Rattle.clustering.proofs.Packing.{HeldTo}
 use Rattle.clustering.proofs.pack.Given as goal
 
 abbrev pub invariant-loop-i : goal.invariant-loop-i

@@ -1,10 +1,7 @@
 -- `packed` meets its contract: the marks before j are packed.
-use Prim.Native.Nat.{ℕ, ◌-◌, ◌≤◌, ◌<◌}
+use Prim.Native.Nat.{◌<◌}
 use native.Mathlib.Omega.{arith}
-use mathlib.Core.Path.{◌≡◌, ◌∙◌}
-use mathlib.Core.Bool.{Bool}
-use Rattle.scope.specs.PackedRows.{packed_row}
-use Rattle.clustering.specs.Table.{Shows}
+use mathlib.Core.Path.{◌∙◌}
 use Rattle.clustering.proofs.Packing.{none-packed, packed_step, packed_end}
 use Rattle.clustering.proofs.packed.Goals as goal
 

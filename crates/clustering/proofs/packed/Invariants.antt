@@ -1,11 +1,9 @@
 -- `packed` meets its contract: the marks before j are packed.
 use Prim.Native.Nat.{ℕ, ◌-◌, ◌≤◌, ◌<◌}
-use native.Mathlib.Omega.{arith}
-use mathlib.Core.Path.{◌≡◌, ◌∙◌}
+use mathlib.Core.Path.{◌≡◌}
 use mathlib.Core.Bool.{Bool}
 use Rattle.scope.specs.PackedRows.{packed_row}
 use Rattle.clustering.specs.Table.{Shows}
-use Rattle.clustering.proofs.Packing.{none-packed, packed_step, packed_end}
 use Rattle.clustering.proofs.packed.Given as goal
 
 abbrev pub invariant-loop-j : goal.invariant-loop-j

@@ -1,13 +1,9 @@
 -- `tolerance` meets its contract: the largest area of the first k regions is known.
 use Prim.Native.Nat.{◌-◌, ℕ, ◌≤◌}
-use native.Mathlib.Omega.{arith}
 use mathlib.Core.List.{List}
-use mathlib.Core.Path.{◌∙◌, ◌≡◌}
-use lib.Ieee.{of_bits}
+use mathlib.Core.Path.{◌≡◌}
 use lib.ListN.{length}
-use borrow.Author.Rules.{rules}
-use Rattle.scope.specs.Numbers.{e_10}
-use Rattle.clustering.proofs.Tolerances.{largest_all, largest_next, largest-none, largest_of}
+use Rattle.clustering.proofs.Tolerances.{largest_of}
 use Rattle.clustering.proofs.tolerance.Given as goal
 
 abbrev pub invariant-loop-k : goal.invariant-loop-k

@@ -1,9 +1,7 @@
 -- `unpack` meets its contract, row by row: the rows before i show what the words hold. Equal words have equal rows, so one may be copied.
-use Prim.Native.Nat.{ℕ, ◌-◌, ◌≤◌, ◌<◌}
+use Prim.Native.Nat.{◌<◌}
 use native.Mathlib.Omega.{arith}
-use mathlib.Core.Bool.{Bool}
-use Rattle.clustering.specs.Table.{Shows, Holds}
-use Rattle.clustering.proofs.Packing.{shown_to, shown_start, shown_end, row_unpacked, row_copied}
+use Rattle.clustering.proofs.Packing.{shown_start, shown_end, row_unpacked, row_copied}
 use Rattle.clustering.proofs.unpack.Goals as goal
 use Rattle.clustering.proofs.unpack.Goals.{then-first-i+then-rows-first, else-first-i}
 
@@ -17,10 +15,10 @@ loop-i-preserved c =
       omega arith,
       λ f g h s.
           elim c.if-first-i.branch [
-            then-first-i+then-rows-first w ↦
-          let earlier : c.first_of-first.result < l.i = omega arith in
-          rw w.m-is (row_copied _ f g _ h l.i _ hi earlier w.if-rows-first.true (l.invariant.1 f g h s))
-          | else-first-i w ↦ rw w.m-is (row_unpacked _ f g _ h l.i hi (w.unpack_row.ensures _ _ c.requires (l.invariant.1 f g h s)))
+            | then-first-i+then-rows-first w ↦
+                let earlier : c.first_of-first.result < l.i = omega arith in
+                rw w.m-is (row_copied _ f g _ h l.i _ hi earlier w.if-rows-first.true (l.invariant.1 f g h s))
+            | else-first-i w ↦ rw w.m-is (row_unpacked _ f g _ h l.i hi (w.unpack_row.ensures _ _ c.requires (l.invariant.1 f g h s)))
           ],
     )
 

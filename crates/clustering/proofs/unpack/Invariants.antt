@@ -1,11 +1,8 @@
 -- `unpack` meets its contract, row by row: the rows before i show what the words hold. Equal words have equal rows, so one may be copied.
-use Prim.Native.Nat.{ℕ, ◌-◌, ◌≤◌, ◌<◌}
-use native.Mathlib.Omega.{arith}
+use Prim.Native.Nat.{ℕ, ◌-◌, ◌≤◌}
 use mathlib.Core.Bool.{Bool}
-use mathlib.Core.Logic.{⊎_elim}
-use borrow.Author.Tests.{eqb-true}
 use Rattle.clustering.specs.Table.{Shows, Holds}
-use Rattle.clustering.proofs.Packing.{shown_to, shown_start, shown_end, row_unpacked, row_copied}
+use Rattle.clustering.proofs.Packing.{shown_to}
 use Rattle.clustering.proofs.unpack.Given as goal
 
 abbrev pub invariant-loop-i : goal.invariant-loop-i

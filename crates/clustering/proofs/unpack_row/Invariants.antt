@@ -1,13 +1,10 @@
 -- `unpack_row` meets its contract: row i is cleared, and shows the places of the word that are not left.
 use Prim.Native.Nat.{ℕ}
-use native.Mathlib.Omega.{arith}
 use mathlib.Core.Path.{◌≡◌}
 use mathlib.Core.Bool.{Bool, true}
 use Rattle.scope.specs.Runs.{bit}
-use Rattle.intake.specs.Limits.{max_circles}
 use Rattle.clustering.specs.Table.{Shows}
-use Rattle.clustering.proofs.Places.{still_places}
-use Rattle.clustering.proofs.Packing.{with_places, places-start, places_more, places_end}
+use Rattle.clustering.proofs.Packing.{with_places}
 use Rattle.clustering.proofs.unpack_row.Given as goal
 
 abbrev pub invariant-loop-rest : goal.invariant-loop-rest

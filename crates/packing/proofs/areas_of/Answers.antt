@@ -1,9 +1,6 @@
 -- `areas_of` meets its contract, box by box.
-use Rattle.std.proofs.Common.{◌≡◌, ◌-◌, ◌≤◌, length, refl, arith, length-set}
+use Rattle.std.proofs.Common.{◌≡◌, length, refl, arith, length-set}
 use lib.Ieee.{nan}
-use Rattle.scope.specs.Numbers.{◌*ᶠ◌}
-use Rattle.intake.specs.Columns.{at}
-use Rattle.packing.specs.Lists.{At}
 use Rattle.packing.proofs.Arrays.{at_none, at_more}
 use Rattle.packing.proofs.areas_of.Goals as goal
 

@@ -1,10 +1,8 @@
 -- `boxes_at` meets its contract: the first i boxes stand over as many empty ones.
-use Rattle.std.proofs.Common.{◌≡◌, ◌-◌, ◌≤◌, replicate, ap, ◌∙◌, arith, rules}
-use Rattle.scope.specs.Runs.{tab}
+use Rattle.std.proofs.Common.{◌≡◌, replicate, ap, ◌∙◌, arith}
 use Rattle.scope.specs.Limits.{circle_cap}
 use Rattle.scope.specs.Packing.{no_rectangle}
 use Rattle.intake.specs.Limits.{max_circles}
-use Rattle.intake.proofs.Overwriting.{over}
 use Rattle.packing.specs.Sides.{box_at}
 use Rattle.packing.proofs.Arrays.{over_tab_next, over_tab_all}
 use Rattle.packing.proofs.boxes_at.Goals as goal

@@ -1,10 +1,9 @@
 -- `breadths_of` meets its contract: after i boxes each line has the breadth of the first i.
-use Rattle.std.proofs.Common.{◌≡◌, ℕ, ◌-◌, ◌<◌, ◌≤◌, length, get_or, arith, length-set, rules}
+use Rattle.std.proofs.Common.{◌≡◌, ℕ, ◌-◌, ◌<◌, ◌≤◌, length, get_or}
 use lib.Ieee.{nan}
 use Rattle.scope.specs.Packing.{breadth}
 use Rattle.intake.specs.Columns.{at}
 use Rattle.packing.specs.Lists.{At}
-use Rattle.packing.proofs.Grid.{breadths_none, breadths_next}
 use Rattle.packing.proofs.breadths_of.Given as goal
 
 abbrev pub invariant-loop-i : goal.invariant-loop-i

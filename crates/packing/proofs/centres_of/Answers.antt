@@ -1,9 +1,7 @@
 -- `centres_of` meets its contract, box by box.
-use Rattle.std.proofs.Common.{◌≡◌, ℕ, ◌-◌, ◌<◌, ◌≤◌, length, get_or, refl, arith, length-set}
+use Rattle.std.proofs.Common.{◌≡◌, length, refl, arith, length-set}
 use lib.Ieee.{nan, of_bits}
 use Rattle.scope.specs.Packing.{centred}
-use Rattle.intake.specs.Columns.{at}
-use Rattle.packing.specs.Lists.{At}
 use Rattle.packing.proofs.Arrays.{at_none, at_more}
 use Rattle.packing.proofs.centres_of.Goals as goal
 

@@ -1,10 +1,9 @@
 -- `centres_of` meets its contract, box by box.
-use Rattle.std.proofs.Common.{◌≡◌, ℕ, ◌-◌, ◌<◌, ◌≤◌, length, get_or, refl, arith, length-set}
-use lib.Ieee.{nan, of_bits}
+use Rattle.std.proofs.Common.{◌≡◌, ℕ, ◌-◌, ◌<◌, ◌≤◌, length, get_or}
+use lib.Ieee.{nan}
 use Rattle.scope.specs.Packing.{centred}
 use Rattle.intake.specs.Columns.{at}
 use Rattle.packing.specs.Lists.{At}
-use Rattle.packing.proofs.Arrays.{at_none, at_more}
 use Rattle.packing.proofs.centres_of.Given as goal
 
 abbrev pub invariant-loop-i : goal.invariant-loop-i

@@ -1,9 +1,8 @@
 -- `clear` meets its contract, place by place.
-use Rattle.std.proofs.Common.{◌≡◌, ◌-◌, ◌≤◌, length, refl, arith, length-set}
-use lib.Ieee.{nan, of_bits}
+use Rattle.std.proofs.Common.{◌≡◌, ◌-◌, ◌≤◌, length}
+use lib.Ieee.{nan}
 use Rattle.scope.specs.Numbers.{nought}
 use Rattle.packing.specs.Lists.{At}
-use Rattle.packing.proofs.Arrays.{at_none, at_more}
 use Rattle.packing.proofs.clear.Given as goal
 
 abbrev pub invariant-loop-i : goal.invariant-loop-i

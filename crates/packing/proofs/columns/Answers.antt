@@ -1,5 +1,5 @@
 -- `columns` meets its contract: the refusal, or the count.
-use Rattle.std.proofs.Common.{◌≡◌, [], ◌∷◌, sym, ap, ◌∙◌, rules}
+use Rattle.std.proofs.Common.{[], ◌∷◌, sym, ap, ◌∙◌}
 use Rattle.scope.specs.Refusals.{columns_refusal, given}
 use Rattle.intake.proofs.CauseWords.{joined, number-says}
 use Rattle.packing.proofs.ColumnTable.{columns-refused, columns-given, columns_asked}

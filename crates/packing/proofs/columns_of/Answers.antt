@@ -1,8 +1,8 @@
 -- `columns_of` meets its contract: the table for 1.618 alone, else the two roots and their product raised.
-use Rattle.std.proofs.Common.{T, sym, ap, ◌∙◌, subst, arith, rules}
+use Rattle.std.proofs.Common.{T, sym, ap, ◌∙◌, subst, arith}
 use Rattle.scope.specs.Numbers.{golden}
 use Rattle.scope.specs.Packing.{columns}
-use Rattle.promises.proofs.packing.Proportions.{Proportion, columns_at_most_16}
+use Rattle.promises.proofs.packing.Proportions.{columns_at_most_16}
 use Rattle.packing.proofs.ColumnTable.{golden-alone, proportion_good}
 use Rattle.packing.proofs.Counting.{count_small, count_held}
 use Rattle.packing.proofs.RaisedWord.{raised_word_is}

@@ -1,5 +1,5 @@
 -- `golden_columns` meets its contract: the table's rule at every entry.
-use Rattle.std.proofs.Common.{◌≡◌, ℕ, zero, suc, ◌-◌, sym, refl, ap, ◌∙◌, arith, rules}
+use Rattle.std.proofs.Common.{◌≡◌, ℕ, zero, suc, ◌-◌, sym, refl, ap, ◌∙◌, arith}
 use Rattle.scope.specs.Numbers.{golden}
 use Rattle.scope.specs.Packing.{columns}
 use Rattle.packing.proofs.ColumnTable.{table_is, no_columns}

@@ -1,8 +1,5 @@
 -- `lines_of` meets its contract, box by box.
-use Rattle.std.proofs.Common.{◌≡◌, ℕ, ◌-◌, ◌/◌, ◌%◌, ◌<◌, ◌≤◌, length, ap, arith, length-set}
-use Rattle.scope.specs.Packing.{place}
-use Rattle.intake.specs.Columns.{at}
-use Rattle.packing.specs.Lists.{At}
+use Rattle.std.proofs.Common.{◌≡◌, ℕ, ◌/◌, ◌%◌, length, ap, arith, length-set}
 use Rattle.packing.proofs.Arrays.{at_none, at_more}
 use Rattle.promises.proofs.packing.Proportions.{grid_fits_64}
 use Rattle.packing.proofs.ColumnTable.{proportion_good}

@@ -1,11 +1,8 @@
 -- `lines_of` meets its contract, box by box.
-use Rattle.std.proofs.Common.{◌≡◌, ℕ, ◌-◌, ◌/◌, ◌%◌, ◌<◌, ◌≤◌, length, ap, arith, length-set}
+use Rattle.std.proofs.Common.{◌≡◌, ◌-◌, ◌/◌, ◌%◌, ◌≤◌, length}
 use Rattle.scope.specs.Packing.{place}
 use Rattle.intake.specs.Columns.{at}
 use Rattle.packing.specs.Lists.{At}
-use Rattle.packing.proofs.Arrays.{at_none, at_more}
-use Rattle.promises.proofs.packing.Proportions.{grid_fits_64}
-use Rattle.packing.proofs.ColumnTable.{proportion_good}
 use Rattle.packing.proofs.lines_of.Given as goal
 
 abbrev pub invariant-loop-i : goal.invariant-loop-i

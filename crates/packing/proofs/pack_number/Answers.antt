@@ -1,6 +1,6 @@
 -- `pack_number` meets its contract: the words of its checks joined say what is refused of the boxes.
 use native.Mathlib.Nat.{sub-zero}
-use Rattle.std.proofs.Common.{[], ◌∷◌, ◌∙◌, rules}
+use Rattle.std.proofs.Common.{[], ◌∷◌, ◌∙◌}
 use Rattle.intake.proofs.CauseWords.{joined, number-says}
 use Rattle.packing.proofs.Packings.{sides_number_lem}
 use Rattle.packing.proofs.pack_number.Goals as goal

@@ -1,5 +1,5 @@
 -- `packed_at` meets its contract: the refusal, or the boxes with their new centres.
-use Rattle.std.proofs.Common.{sym, ap, ◌∙◌, rules}
+use Rattle.std.proofs.Common.{sym, ap, ◌∙◌}
 use Rattle.scope.specs.Packing.{refused_packing}
 use Rattle.packing.proofs.PackedBoxes.{sided-answers, accepted_few, put_together}
 use Rattle.packing.proofs.packed_at.Goals as goal

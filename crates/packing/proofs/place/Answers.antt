@@ -1,8 +1,7 @@
 -- `place` meets its contract: the boxes before j that go before box i are counted.
-use Rattle.std.proofs.Common.{◌≡◌, ◌-◌, ◌<◌, ◌≤◌, length, refl, ⊎_elim, arith, rules}
+use Rattle.std.proofs.Common.{◌≡◌, length, refl, arith}
 use Rattle.scope.specs.Runs.{many}
 use Rattle.scope.specs.Packing.{before, place}
-use Rattle.intake.specs.Columns.{at}
 use Rattle.packing.proofs.Arrays.{count-takes, count-leaves}
 use Rattle.packing.proofs.place.Goals as goal
 use Rattle.packing.proofs.place.Goals.{then-goes_before, else-goes_before}

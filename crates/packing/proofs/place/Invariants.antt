@@ -1,9 +1,8 @@
 -- `place` meets its contract: the boxes before j that go before box i are counted.
-use Rattle.std.proofs.Common.{◌≡◌, ◌-◌, ◌<◌, ◌≤◌, length, refl, ⊎_elim, arith, rules}
+use Rattle.std.proofs.Common.{◌≡◌, ◌-◌, ◌<◌, ◌≤◌, length}
 use Rattle.scope.specs.Runs.{many}
-use Rattle.scope.specs.Packing.{before, place}
+use Rattle.scope.specs.Packing.{before}
 use Rattle.intake.specs.Columns.{at}
-use Rattle.packing.proofs.Arrays.{count-takes, count-leaves}
 use Rattle.packing.proofs.place.Given as goal
 
 abbrev pub invariant-loop-j : goal.invariant-loop-j

@@ -1,5 +1,5 @@
 -- `raised` meets its contract, a case for each way through it. The numbers that x is held against are powers of two once their patterns are read.
-use Rattle.std.proofs.Common.{◌≡◌, ◌^◌, ◌<◌, Bool, true, false, T, sym, subst, inl, inr, arith, le→leb}
+use Rattle.std.proofs.Common.{◌≡◌, ◌^◌, ◌<◌, Bool, true, false, T, sym, subst, arith, le→leb}
 use lib.Ieee.{of_bits, div, in_float}
 use Rattle.packing.proofs.RaisedWord.{above_minus_one, IsCut, whole_part_small, next_is_raised, whole_part_is_raised, large_is_raised, largest_is_raised, none_is_raised, infinite_is_raised}
 use Rattle.packing.proofs.raised.Goals as goal

@@ -1,5 +1,4 @@
 -- `refused` meets its contract: an array of empty boxes is one filled up from nothing.
-use Rattle.std.proofs.Common.{rules}
 use Rattle.scope.specs.Runs.{filled}
 use Rattle.scope.specs.Limits.{circle_cap}
 use Rattle.packing.proofs.refused.Goals as goal

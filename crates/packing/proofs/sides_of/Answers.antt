@@ -1,10 +1,8 @@
 -- `sides_of` meets its contract, box by box.
-use Rattle.std.proofs.Common.{◌≡◌, ◌-◌, ◌≤◌, length, ap, arith, length-set}
+use Rattle.std.proofs.Common.{◌≡◌, ap, arith, length-set}
 use lib.Ieee.{nan}
 use Rattle.shapes.specs.declared.rectangle.Rectangle.{Rectangle}
-use Rattle.scope.specs.Packing.{no_rectangle, width_at, height_at}
-use Rattle.intake.specs.Limits.{max_circles}
-use Rattle.packing.specs.Lists.{At}
+use Rattle.scope.specs.Packing.{no_rectangle}
 use Rattle.packing.proofs.Arrays.{at_none, at_more, get_d_any}
 use Rattle.packing.proofs.sides_of.Goals as goal
 

@@ -1,5 +1,5 @@
 -- `skyline_pack_by_value` meets its contract: only the sides of the first n boxes matter.
-use Rattle.std.proofs.Common.{◌∙◌, rules}
+use Rattle.std.proofs.Common.{◌∙◌}
 use Rattle.packing.proofs.PackedBoxes.{first_by_sides}
 use Rattle.packing.proofs.skyline_pack_by_value.Goals as goal
 

@@ -1,9 +1,7 @@
 -- `starts_of` meets its contract: the sum is where line j starts.
-use Rattle.std.proofs.Common.{◌≡◌, ◌-◌, ◌≤◌, length, refl, arith, length-set}
+use Rattle.std.proofs.Common.{◌≡◌, length, refl, arith, length-set}
 use lib.Ieee.{nan, of_bits}
 use Rattle.scope.specs.Packing.{start}
-use Rattle.intake.specs.Columns.{at}
-use Rattle.packing.specs.Lists.{At}
 use Rattle.packing.proofs.Arrays.{at_none, at_more}
 use Rattle.packing.proofs.Grid.{start_next}
 use Rattle.packing.proofs.starts_of.Goals as goal

@@ -8,7 +8,7 @@ use Prim.Native.Nat.{ℕ, ◌+◌, ◌-◌, ◌*◌, ◌^◌, ◌≤◌, ◌<◌
 use native.Mathlib.Nat.{mul-le-mul, mul-le-mul_right, mul-le-mul_left, le_of_mul-le-mul_right, mul-pos, le_trans}
 use native.Mathlib.Omega.{arith}
 use lib.Dec.{T, lit≤}
-use lib.Ieee.{Float, fin, binary64, neg, eq, fits, unlike}
+use lib.Ieee.{Float, binary64, neg, eq, fits, unlike}
 use Rattle.algebra.specs.Integer.{Z, ◌⊕◌, ◌⊖◌, ◌⊗◌, ◌≈◌, nat, opp, Within, Near}
 use Rattle.algebra.proofs.Size.{either, within-mul, within_difference}
 use Rattle.algebra.proofs.Squares.{square_le}

@@ -12,7 +12,7 @@ use Rattle.rounding.specs.Scale.{pow2}
 use Rattle.rounding.proofs.Double.{pow2-le}
 use Rattle.shapes.specs.declared.circle.Circle.{Circle}
 use Rattle.shapes.specs.Lift.{lift}
-use Rattle.scope.specs.Limits.{within, coordinate_ok, radius_ok}
+use Rattle.scope.specs.Limits.{coordinate_ok, radius_ok}
 use Rattle.scope.specs.Promises.{units}
 use Rattle.laws.proofs.Between.{Between, within-between, smallest-positive, radius-size}
 use Rattle.promises.proofs.numbers.InRange.{radius_lifted}

@@ -20,7 +20,7 @@ use Rattle.rounding.proofs.Multiply.{mul_is}
 use Rattle.rounding.proofs.root.Operation.{root-finite, root-nearest}
 use Rattle.rounding.proofs.Double.{one, pow2_scale, pow2-mul}
 use Rattle.scope.specs.Numbers.{whole}
-use Rattle.scope.specs.Limits.{within, proportion_ok}
+use Rattle.scope.specs.Limits.{proportion_ok}
 use Rattle.scope.specs.Packing.{columns}
 use Rattle.scope.specs.Computing.{computing}
 use Rattle.laws.proofs.Cases.{and_iff}

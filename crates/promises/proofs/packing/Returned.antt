@@ -26,7 +26,7 @@ use Rattle.scope.specs.Promises.{units, x_axis, y_axis, Finite, lower, upper, ga
 use Rattle.laws.proofs.Cases.{is_true, is_false}
 use Rattle.promises.proofs.numbers.Bounded.{Bounded}
 use Rattle.promises.proofs.numbers.RangeOf.{range_for}
-use Rattle.promises.proofs.packing.BoxSides.{at, AllSpan, x-ends, y-ends}
+use Rattle.promises.proofs.packing.BoxSides.{AllSpan, x-ends, y-ends}
 use Rattle.promises.proofs.packing.Shift.{ShiftedBy, Step, IsSum, shifted_is_sum}
 use Rattle.promises.proofs.packing.Gap.{packed_reach, packed_slack, grid_room}
 use Rattle.promises.proofs.packing.KeptGap.{ApartOn, larger-above, kept_above, kept-span}

@@ -13,7 +13,7 @@ use Rattle.rounding.specs.Value.{mag, negative, val, Fin}
 use Rattle.rounding.specs.Scale.{pow2}
 use Rattle.shapes.specs.declared.circle.Circle.{Circle}
 use Rattle.shapes.specs.declared.rectangle.Rectangle.{Rectangle}
-use Rattle.scope.specs.Limits.{circle_cap, within, side_ok, padding_ok, factor_ok, proportion_ok}
+use Rattle.scope.specs.Limits.{circle_cap, side_ok, padding_ok, factor_ok, proportion_ok}
 use Rattle.scope.specs.Links.{regions}
 use Rattle.scope.specs.Refusals.{bad_side, bad_padding, pack_refusal}
 use Rattle.scope.specs.Groups.{Clusters, clusters}

@@ -5,7 +5,6 @@ use Prim.Native.Nat.{ℕ}
 use native.Mathlib.Omega.{arith}
 use lib.Dec.{T}
 use lib.Ieee.{binary64, nan_bits, of_bits}
-use borrow.Author.Rules.{rules}
 use Rattle.root.proofs.WholeLaws.{nothing_behind}
 use Rattle.root.proofs.NearestLaws.{root-fits, result_no_nan, result_is_root}
 use Rattle.root.proofs.positive.Goals as goal

@@ -1,5 +1,4 @@
 -- `root::root` meets its contract: each test by what it says of the pattern.
-use borrow.Author.Rules.{rules}
 use native.Mathlib.Omega.{arith}
 use lib.Ieee.{ne}
 use Rattle.root.proofs.AnswerLaws.{when_nan, number_of_test, when_below, when_zero, when_top, when_above}

@@ -1,14 +1,10 @@
 -- `mask_at` meets its contract: after j turns the mask has the circles before place j that the point lies in.
 use Prim.Native.Nat.{◌-◌, ◌≤◌}
-use native.Mathlib.Omega.{arith}
 use mathlib.Core.Path.{◌≡◌}
-use mathlib.Core.Logic.{⊎_map}
-use borrow.Author.Rules.{rules}
 use lib.ListN.{length}
 use Rattle.shapes.specs.Records.{point_at}
-use Rattle.laws.proofs.PackedRows.{single_shifted}
 use Rattle.intake.specs.Limits.{max_circles}
-use Rattle.touch.proofs.Touching.{mask_to, mask-none, mask_fits, mask_next, mask_all}
+use Rattle.touch.proofs.Touching.{mask_to}
 use Rattle.touch.proofs.mask_at.Given as goal
 
 abbrev pub invariant-loop-j : goal.invariant-loop-j

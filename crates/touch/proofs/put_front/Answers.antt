@@ -1,6 +1,5 @@
 -- `put_front` meets its contract.
 use native.Mathlib.Nat.{sub-zero}
-use borrow.Author.Rules.{rules}
 use Rattle.touch.proofs.put_front.Goals as goal
 
 pub returns : goal.returns

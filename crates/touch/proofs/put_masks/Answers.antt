@@ -1,11 +1,7 @@
 -- `put_masks` meets its contract: after i turns the first i answers stand there, and after them what stood there before.
-use Prim.Native.Nat.{◌-◌, ◌≤◌}
 use native.Mathlib.Omega.{arith}
-use mathlib.Core.Path.{◌≡◌, refl}
-use lib.ListN.{length, length-set}
-use Rattle.intake.specs.Limits.{max_circles}
-use Rattle.intake.proofs.Overwriting.{over}
-use Rattle.touch.specs.Answers.{masks_of}
+use mathlib.Core.Path.{refl}
+use lib.ListN.{length-set}
 use Rattle.touch.proofs.Touching.{answer_put, answers_all}
 use Rattle.touch.proofs.put_masks.Goals as goal
 

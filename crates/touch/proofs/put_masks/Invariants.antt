@@ -1,12 +1,10 @@
 -- `put_masks` meets its contract: after i turns the first i answers stand there, and after them what stood there before.
 use Prim.Native.Nat.{◌-◌, ◌≤◌}
-use native.Mathlib.Omega.{arith}
-use mathlib.Core.Path.{◌≡◌, refl}
-use lib.ListN.{length, length-set}
+use mathlib.Core.Path.{◌≡◌}
+use lib.ListN.{length}
 use Rattle.intake.specs.Limits.{max_circles}
 use Rattle.intake.proofs.Overwriting.{over}
 use Rattle.touch.specs.Answers.{masks_of}
-use Rattle.touch.proofs.Touching.{answer_put, answers_all}
 use Rattle.touch.proofs.put_masks.Given as goal
 
 abbrev pub invariant-loop-i : goal.invariant-loop-i

@@ -1,8 +1,5 @@
 -- `touched_at` meets its contract.
-use mathlib.Core.Path.{◌≡◌}
 use borrow.Author.Rules.{rules}
-use lib.ListN.{length}
-use Rattle.touch.specs.Answers.{front_refusal}
 use Rattle.touch.proofs.FrontTouches.{front-number, front-room, front-refused, front-accepted}
 use Rattle.touch.proofs.touched_at.Goals as goal
 

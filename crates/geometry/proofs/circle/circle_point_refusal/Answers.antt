@@ -1,6 +1,5 @@
 -- `circle_point_refusal` meets its contract: the number of the word that says its checks.
 use mathlib.Core.Path.{◌∙◌}
-use borrow.Author.Rules.{rules}
 use Rattle.scope.specs.Refusals.{circle_point_refusal}
 use Rattle.intake.proofs.CauseWords.{number-says}
 use Rattle.geometry.proofs.circle.circle_point_refusal.Goals as goal

@@ -1,6 +1,5 @@
 -- `contains` meets its contract: the refusal, or the value where there is none.
 use mathlib.Core.Path.{sym, ◌∙◌}
-use borrow.Author.Rules.{rules}
 use Rattle.laws.proofs.AfterRefusal.{contains-answers}
 use Rattle.geometry.proofs.circle.contains.Goals as goal
 

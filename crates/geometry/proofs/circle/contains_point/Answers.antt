@@ -1,6 +1,5 @@
 -- `contains_point` meets its contract: the refusal, or the value where there is none.
 use mathlib.Core.Path.{sym, ◌∙◌}
-use borrow.Author.Rules.{rules}
 use Rattle.laws.proofs.AfterRefusal.{contains_point-answers}
 use Rattle.geometry.proofs.circle.contains_point.Goals as goal
 

@@ -1,6 +1,5 @@
 -- `distance` meets its contract: the refusal, or the value where there is none.
 use mathlib.Core.Path.{sym, ◌∙◌}
-use borrow.Author.Rules.{rules}
 use Rattle.laws.proofs.AfterRefusal.{circle_distance-answers}
 use Rattle.geometry.proofs.circle.distance.Goals as goal
 

@@ -1,6 +1,5 @@
 -- `pair_refusal` meets its contract: the number of the word that says its checks.
 use mathlib.Core.Path.{◌∙◌}
-use borrow.Author.Rules.{rules}
 use Rattle.scope.specs.Refusals.{pair_refusal}
 use Rattle.intake.proofs.CauseWords.{number-says}
 use Rattle.geometry.proofs.circle.pair_refusal.Goals as goal

@@ -1,5 +1,4 @@
 -- `raw_circle_distance` meets its contract: each way out knows how the test went.
-use borrow.Author.Rules.{rules}
 use lib.Ieee.{of_bits}
 use Rattle.scope.specs.Distance.{circle_distance}
 use Rattle.geometry.proofs.circle.raw_circle_distance.Goals as goal

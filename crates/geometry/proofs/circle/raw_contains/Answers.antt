@@ -1,5 +1,4 @@
 -- `raw_contains` meets its contract.
-use borrow.Author.Rules.{rules}
 use Rattle.scope.specs.Distance.{contains}
 use Rattle.geometry.proofs.circle.raw_contains.Goals as goal
 

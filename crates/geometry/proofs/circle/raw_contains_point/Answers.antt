@@ -1,6 +1,5 @@
 -- `raw_contains_point` meets its contract.
 use mathlib.Core.Path.{refl}
-use borrow.Author.Rules.{rules}
 use Rattle.geometry.proofs.circle.raw_contains_point.Goals as goal
 
 pub returns : goal.returns

@@ -1,5 +1,4 @@
 -- `raw_intersects` meets its contract.
-use borrow.Author.Rules.{rules}
 use Rattle.scope.specs.Distance.{intersects}
 use Rattle.geometry.proofs.circle.raw_intersects.Goals as goal
 

@@ -1,6 +1,5 @@
 -- `apart` meets its contract.
 use mathlib.Core.Path.{◌∙◌}
-use borrow.Author.Rules.{rules}
 use Rattle.geometry.proofs.Meeting.{hypot_is_distance}
 use Rattle.geometry.proofs.lengths.apart.Goals as goal
 

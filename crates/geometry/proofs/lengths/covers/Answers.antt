@@ -1,6 +1,5 @@
 -- `covers` meets its contract: where the squares are far enough apart they say how the distance lies to the radius, and elsewhere it is compared.
 use mathlib.Core.Path.{refl, sym, ◌∙◌}
-use borrow.Author.Rules.{rules}
 use lib.Dec.{lit≤}
 use lib.Ieee.{of_bits, fits}
 use Rattle.rounding.specs.Value.{mag, negative, Fin}

@@ -1,5 +1,4 @@
 -- `crossing` meets its contract: below the sum of the radii, and above their difference.
-use borrow.Author.Rules.{rules}
 use Rattle.geometry.proofs.lengths.crossing.Goals as goal
 
 pub returns-then-d-a : goal.returns-then-d-a

@@ -1,5 +1,4 @@
 -- `magnitude` meets its contract, step by step.
-use borrow.Author.Rules.{rules}
 use Rattle.scope.specs.Offset.{magnitude}
 use Rattle.geometry.proofs.lengths.magnitude.Goals as goal
 

@@ -1,6 +1,4 @@
 -- `meets` meets its contract. The first two tests are read as one.
-use mathlib.Core.Logic.{⊎_elim}
-use borrow.Author.Rules.{rules}
 use Rattle.geometry.proofs.lengths.meets.Goals as goal
 use Rattle.geometry.proofs.lengths.meets.Goals.{then-crossing, else-crossing}
 

@@ -1,6 +1,5 @@
 -- `raw_distance` meets its contract.
 use mathlib.Core.Path.{refl}
-use borrow.Author.Rules.{rules}
 use Rattle.geometry.proofs.point.raw_distance.Goals as goal
 
 pub returns : goal.returns

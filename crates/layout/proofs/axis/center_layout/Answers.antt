@@ -1,5 +1,4 @@
 -- `center_layout` meets its contract: one axis, then the other.
-use borrow.Author.Rules.{rules}
 use Rattle.layout.proofs.Settled.{layout-centred}
 use Rattle.layout.proofs.axis.center_layout.Goals as goal
 

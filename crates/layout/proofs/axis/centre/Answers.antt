@@ -1,5 +1,4 @@
 -- `centre` meets its contract.
-use borrow.Author.Rules.{rules}
 use Rattle.layout.proofs.axis.centre.Goals as goal
 
 pub returns : goal.returns

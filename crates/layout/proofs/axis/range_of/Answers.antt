@@ -1,11 +1,8 @@
 -- `range_of` meets its contract: after i circles the range is that of the first i.
-use Prim.Native.Nat.{◌-◌, ◌≤◌}
 use native.Mathlib.Omega.{arith}
-use borrow.Author.Rules.{rules}
 use mathlib.Core.Path.{◌≡◌, refl, ◌∙◌}
 use lib.ListN.{length}
 use Rattle.scope.specs.Runs.{always}
-use Rattle.layout.specs.Ranges.{low_end, high_end, range_over}
 use Rattle.layout.proofs.Ranges.{none_in_range, one_in_range}
 use Rattle.layout.proofs.axis.range_of.Goals as goal
 

@@ -1,5 +1,4 @@
 -- `to_origin` meets its contract.
-use borrow.Author.Rules.{rules}
 use Rattle.layout.proofs.axis.to_origin.Goals as goal
 
 pub returns : goal.returns

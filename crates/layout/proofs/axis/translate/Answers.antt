@@ -1,12 +1,9 @@
 -- `translate` meets its contract, number by number.
-use Prim.Native.Nat.{◌-◌, ◌≤◌}
 use native.Mathlib.Omega.{arith}
-use mathlib.Core.Path.{◌≡◌, refl}
-use lib.ListN.{length, length-set}
-use lib.Ieee.{nan}
-use Rattle.scope.specs.Numbers.{◌+ᶠ◌}
+use mathlib.Core.Path.{refl}
+use lib.ListN.{length-set}
 use Rattle.intake.proofs.Columns.{whole_rewritten}
-use Rattle.intake.proofs.InPlace.{so_far, none_rewritten, one_rewritten}
+use Rattle.intake.proofs.InPlace.{none_rewritten, one_rewritten}
 use Rattle.layout.proofs.axis.translate.Goals as goal
 
 pub loop-i-init : goal.loop-i-init

@@ -1,12 +1,10 @@
 -- `translate` meets its contract, number by number.
 use Prim.Native.Nat.{◌-◌, ◌≤◌}
-use native.Mathlib.Omega.{arith}
-use mathlib.Core.Path.{◌≡◌, refl}
-use lib.ListN.{length, length-set}
+use mathlib.Core.Path.{◌≡◌}
+use lib.ListN.{length}
 use lib.Ieee.{nan}
 use Rattle.scope.specs.Numbers.{◌+ᶠ◌}
-use Rattle.intake.proofs.Columns.{whole_rewritten}
-use Rattle.intake.proofs.InPlace.{so_far, none_rewritten, one_rewritten}
+use Rattle.intake.proofs.InPlace.{so_far}
 use Rattle.layout.proofs.axis.translate.Given as goal
 
 abbrev pub invariant-loop-i : goal.invariant-loop-i

@@ -1,5 +1,4 @@
 -- `widened` meets its contract.
-use borrow.Author.Rules.{rules}
 use Rattle.layout.proofs.axis.widened.Goals as goal
 
 pub returns : goal.returns

@@ -1,5 +1,4 @@
 -- `cluster_boxes` meets its contract: the ends of each axis become its middles and lengths, which are those of the boxes.
-use borrow.Author.Rules.{rules}
 use mathlib.Core.Path.{sym, ◌∙◌}
 use lib.ListN.{length}
 use Rattle.layout.proofs.ClusterBoxes.{middles_across, middles_up, lengths_across, lengths_up}

@@ -1,15 +1,12 @@
 -- `cluster_ranges` meets its contract: after i circles each cluster has the range of those of the first i that are its own.
-use Prim.Native.Nat.{◌-◌, ◌≤◌, ◌<◌}
+use Prim.Native.Nat.{◌<◌}
 use native.Mathlib.Omega.{arith}
-use borrow.Author.Rules.{rules}
 use mathlib.Core.Path.{◌≡◌, refl, ◌∙◌}
-use mathlib.Core.Bool.{true, false}
 use lib.ListN.{length, get_or, length-set}
-use lib.Ieee.{inf, neg, div, of_bits}
+use lib.Ieee.{neg, div, of_bits}
 use Rattle.rounding.specs.Extremes.{minimum, maximum}
 use Rattle.layout.specs.Ranges.{low_end, high_end}
-use Rattle.layout.specs.ClusterBoxes.{InClusters}
-use Rattle.layout.proofs.ClusterBoxes.{ends_after, ends-at_first, ends_next}
+use Rattle.layout.proofs.ClusterBoxes.{ends-at_first, ends_next}
 use Rattle.layout.proofs.boxes.cluster_ranges.Goals as goal
 
 pub loop-i-init : goal.loop-i-init

@@ -1,11 +1,9 @@
 -- `fill` meets its contract, number by number.
 use Prim.Native.Nat.{◌-◌, ◌≤◌}
-use native.Mathlib.Omega.{arith}
-use mathlib.Core.Path.{◌≡◌, refl}
-use lib.ListN.{length, length-set}
+use mathlib.Core.Path.{◌≡◌}
+use lib.ListN.{length}
 use lib.Ieee.{nan}
-use Rattle.intake.proofs.Columns.{whole_rewritten}
-use Rattle.intake.proofs.InPlace.{so_far, none_rewritten, one_rewritten}
+use Rattle.intake.proofs.InPlace.{so_far}
 use Rattle.layout.proofs.boxes.fill.Given as goal
 
 abbrev pub invariant-loop-i : goal.invariant-loop-i

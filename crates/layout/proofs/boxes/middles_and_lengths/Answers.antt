@@ -1,15 +1,9 @@
 -- `middles_and_lengths` meets its contract, range by range.
-use Prim.Native.Nat.{◌-◌, ◌≤◌}
 use native.Mathlib.Omega.{arith}
-use borrow.Author.Rules.{rules}
-use mathlib.Core.Path.{◌≡◌, refl}
-use lib.ListN.{length, length-set}
-use lib.Ieee.{nan}
-use Rattle.scope.specs.Numbers.{◌-ᶠ◌}
-use Rattle.scope.specs.Gauge.{middle}
-use Rattle.intake.specs.Columns.{at}
+use mathlib.Core.Path.{refl}
+use lib.ListN.{length-set}
 use Rattle.intake.proofs.Columns.{whole_rewritten, untouched}
-use Rattle.intake.proofs.InPlace.{so_far, none_rewritten, one_rewritten}
+use Rattle.intake.proofs.InPlace.{none_rewritten, one_rewritten}
 use Rattle.layout.proofs.boxes.middles_and_lengths.Goals as goal
 
 pub loop-i-init : goal.loop-i-init

@@ -1,15 +1,12 @@
 -- `middles_and_lengths` meets its contract, range by range.
 use Prim.Native.Nat.{◌-◌, ◌≤◌}
-use native.Mathlib.Omega.{arith}
-use borrow.Author.Rules.{rules}
-use mathlib.Core.Path.{◌≡◌, refl}
-use lib.ListN.{length, length-set}
+use mathlib.Core.Path.{◌≡◌}
+use lib.ListN.{length}
 use lib.Ieee.{nan}
 use Rattle.scope.specs.Numbers.{◌-ᶠ◌}
 use Rattle.scope.specs.Gauge.{middle}
 use Rattle.intake.specs.Columns.{at}
-use Rattle.intake.proofs.Columns.{whole_rewritten, untouched}
-use Rattle.intake.proofs.InPlace.{so_far, none_rewritten, one_rewritten}
+use Rattle.intake.proofs.InPlace.{so_far}
 use Rattle.layout.proofs.boxes.middles_and_lengths.Given as goal
 
 abbrev pub invariant-loop-i : goal.invariant-loop-i

@@ -1,15 +1,11 @@
 -- `padding_of` meets its contract: after i boxes the sum is that of the first i areas.
-use Prim.Native.Nat.{◌-◌, ◌≤◌}
 use native.Mathlib.Omega.{arith}
 use native.Mathlib.Numerals.{add-one}
-use borrow.Author.Rules.{rules}
 use borrow.Author.Tests.{lt-ltb, le-ltb}
 use mathlib.Core.Path.{◌≡◌, refl}
 use lib.ListN.{length}
 use lib.Ieee.{of_bits}
-use Rattle.scope.specs.Numbers.{◌+ᶠ◌, ◌*ᶠ◌, nought}
-use Rattle.scope.specs.Runs.{gather, always}
-use Rattle.intake.specs.Columns.{at}
+use Rattle.scope.specs.Runs.{gather}
 use Rattle.layout.specs.ClusterBoxes.{padding_for}
 use Rattle.layout.proofs.boxes.padding_of.Goals as goal
 

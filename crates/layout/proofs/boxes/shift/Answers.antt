@@ -1,14 +1,9 @@
 -- `shift` meets its contract, circle by circle: every cluster number has its middles.
-use Prim.Native.Nat.{◌-◌, ◌≤◌, ◌<◌}
 use native.Mathlib.Omega.{arith}
-use mathlib.Core.Path.{◌≡◌, refl}
-use lib.ListN.{length, get_or, length-set}
-use lib.Ieee.{nan}
-use Rattle.scope.specs.Numbers.{◌+ᶠ◌, ◌-ᶠ◌}
-use Rattle.intake.specs.Columns.{at}
+use mathlib.Core.Path.{refl}
+use lib.ListN.{length-set}
 use Rattle.intake.proofs.Columns.{whole_rewritten}
-use Rattle.intake.proofs.InPlace.{so_far, none_rewritten, one_rewritten}
-use Rattle.layout.specs.ClusterBoxes.{InClusters}
+use Rattle.intake.proofs.InPlace.{none_rewritten, one_rewritten}
 use Rattle.layout.proofs.boxes.shift.Goals as goal
 
 pub loop-i-init : goal.loop-i-init

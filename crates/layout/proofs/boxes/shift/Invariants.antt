@@ -1,13 +1,11 @@
 -- `shift` meets its contract, circle by circle: every cluster number has its middles.
-use Prim.Native.Nat.{◌-◌, ◌≤◌, ◌<◌}
-use native.Mathlib.Omega.{arith}
-use mathlib.Core.Path.{◌≡◌, refl}
-use lib.ListN.{length, get_or, length-set}
+use Prim.Native.Nat.{◌-◌, ◌≤◌}
+use mathlib.Core.Path.{◌≡◌}
+use lib.ListN.{length, get_or}
 use lib.Ieee.{nan}
 use Rattle.scope.specs.Numbers.{◌+ᶠ◌, ◌-ᶠ◌}
 use Rattle.intake.specs.Columns.{at}
-use Rattle.intake.proofs.Columns.{whole_rewritten}
-use Rattle.intake.proofs.InPlace.{so_far, none_rewritten, one_rewritten}
+use Rattle.intake.proofs.InPlace.{so_far}
 use Rattle.layout.specs.ClusterBoxes.{InClusters}
 use Rattle.layout.proofs.boxes.shift.Given as goal
 

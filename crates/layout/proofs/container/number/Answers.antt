@@ -1,7 +1,6 @@
 -- `number` meets its contract: the causes of the circles and of the container, joined.
 use mathlib.Core.Path.{◌∙◌}
 use mathlib.Core.List.{[], ◌∷◌}
-use borrow.Author.Rules.{rules}
 use Rattle.intake.proofs.CauseWords.{joined, number-says}
 use Rattle.layout.proofs.FrontContained.{container-number}
 use Rattle.layout.proofs.container.number.Goals as goal

@@ -1,16 +1,10 @@
 -- `all_mirrored` meets its contract, number by number.
-use Prim.Native.Nat.{◌-◌, ◌≤◌}
 use native.Mathlib.Omega.{arith}
-use borrow.Author.Rules.{rules}
-use mathlib.Core.Path.{◌≡◌, refl, ap, ◌∙◌}
-use mathlib.Core.Bool.{cond}
-use mathlib.Core.Logic.{⊎_elim}
+use mathlib.Core.Path.{refl, ap, ◌∙◌}
 use lib.ListN.{length, length-set}
-use lib.Ieee.{nan, of_bits}
-use Rattle.scope.specs.Numbers.{◌-ᶠ◌, ◌*ᶠ◌, two}
-use Rattle.scope.specs.Gauge.{in_cluster}
+use lib.Ieee.{of_bits}
 use Rattle.intake.proofs.Columns.{whole_rewritten}
-use Rattle.intake.proofs.InPlace.{so_far, none_rewritten, one_rewritten, one_left}
+use Rattle.intake.proofs.InPlace.{none_rewritten, one_rewritten, one_left}
 use Rattle.layout.proofs.Members.{is_member, is_other}
 use Rattle.layout.proofs.gauge.all_mirrored.Goals as goal
 use Rattle.layout.proofs.gauge.all_mirrored.Goals.{then-wide-a, else-wide-a}

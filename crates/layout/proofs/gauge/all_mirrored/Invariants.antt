@@ -1,17 +1,12 @@
 -- `all_mirrored` meets its contract, number by number.
 use Prim.Native.Nat.{◌-◌, ◌≤◌}
-use native.Mathlib.Omega.{arith}
-use borrow.Author.Rules.{rules}
-use mathlib.Core.Path.{◌≡◌, refl, ap, ◌∙◌}
+use mathlib.Core.Path.{◌≡◌}
 use mathlib.Core.Bool.{cond}
-use mathlib.Core.Logic.{⊎_elim}
-use lib.ListN.{length, length-set}
-use lib.Ieee.{nan, of_bits}
+use lib.ListN.{length}
+use lib.Ieee.{nan}
 use Rattle.scope.specs.Numbers.{◌-ᶠ◌, ◌*ᶠ◌, two}
 use Rattle.scope.specs.Gauge.{in_cluster}
-use Rattle.intake.proofs.Columns.{whole_rewritten}
-use Rattle.intake.proofs.InPlace.{so_far, none_rewritten, one_rewritten, one_left}
-use Rattle.layout.proofs.Members.{is_member, is_other}
+use Rattle.intake.proofs.InPlace.{so_far}
 use Rattle.layout.proofs.gauge.all_mirrored.Given as goal
 
 abbrev pub invariant-loop-i : goal.invariant-loop-i

@@ -1,17 +1,9 @@
 -- `all_turned` meets its contract, circle by circle.
-use Prim.Native.Nat.{◌-◌, ◌≤◌}
 use native.Mathlib.Omega.{arith}
-use borrow.Author.Rules.{rules}
-use mathlib.Core.Path.{◌≡◌, refl, ap, ◌∙◌}
-use mathlib.Core.Bool.{cond}
-use mathlib.Core.Logic.{⊎_elim}
+use mathlib.Core.Path.{refl, ap, ◌∙◌}
 use lib.ListN.{length, length-set}
-use lib.Ieee.{nan}
-use Rattle.scope.specs.Gauge.{in_cluster}
-use Rattle.intake.specs.Columns.{at}
 use Rattle.intake.proofs.Columns.{whole_rewritten, untouched}
-use Rattle.intake.proofs.InPlace.{so_far, none_rewritten, one_rewritten, one_left}
-use Rattle.layout.specs.Turns.{as_turn, turned_x, turned_y}
+use Rattle.intake.proofs.InPlace.{none_rewritten, one_rewritten, one_left}
 use Rattle.layout.proofs.Members.{is_member, is_other}
 use Rattle.layout.proofs.gauge.all_turned.Goals as goal
 use Rattle.layout.proofs.gauge.all_turned.Goals.{then-wide-a, else-wide-a}
@@ -28,17 +20,20 @@ loop-i-preserved c =
       omega arith,
       l.invariant.1,
       l.invariant.2,
-      elim c.if-wide-a.branch [ then-wide-a w ↦ let taken = is_member number w.if-wide-a.true in (
-            ap length w.xs-is ∙ simp length-set l.invariant.3.0,
-            ap length w.ys-is ∙ simp length-set l.invariant.3.1,
-            w.xs-is ∙ one_rewritten _ _ _ l.i (omega arith) l.invariant.3.2 (rw (taken, at_y)),
-            w.ys-is ∙ one_rewritten _ _ _ l.i (omega arith) l.invariant.3.3 (rw (taken, at_x)),
-          ) | else-wide-a w ↦ let left = is_other number w.if-wide-a.false in (
-            ap length w.xs-is ∙ l.invariant.3.0,
-            ap length w.ys-is ∙ l.invariant.3.1,
-            w.xs-is ∙ one_left _ _ _ l.i (omega arith) l.invariant.3.2 (rw left),
-            w.ys-is ∙ one_left _ _ _ l.i (omega arith) l.invariant.3.3 (rw left),
-          ) ],
+      elim c.if-wide-a.branch [
+        | then-wide-a w ↦ let taken = is_member number w.if-wide-a.true in (
+          ap length w.xs-is ∙ simp length-set l.invariant.3.0,
+          ap length w.ys-is ∙ simp length-set l.invariant.3.1,
+          w.xs-is ∙ one_rewritten _ _ _ l.i (omega arith) l.invariant.3.2 (rw (taken, at_y)),
+          w.ys-is ∙ one_rewritten _ _ _ l.i (omega arith) l.invariant.3.3 (rw (taken, at_x)),
+        )
+        | else-wide-a w ↦ let left = is_other number w.if-wide-a.false in (
+          ap length w.xs-is ∙ l.invariant.3.0,
+          ap length w.ys-is ∙ l.invariant.3.1,
+          w.xs-is ∙ one_left _ _ _ l.i (omega arith) l.invariant.3.2 (rw left),
+          w.ys-is ∙ one_left _ _ _ l.i (omega arith) l.invariant.3.3 (rw left),
+        )
+      ],
     )
 
 pub returns : goal.returns

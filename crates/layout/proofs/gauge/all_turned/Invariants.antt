@@ -1,18 +1,13 @@
 -- `all_turned` meets its contract, circle by circle.
 use Prim.Native.Nat.{◌-◌, ◌≤◌}
-use native.Mathlib.Omega.{arith}
-use borrow.Author.Rules.{rules}
-use mathlib.Core.Path.{◌≡◌, refl, ap, ◌∙◌}
+use mathlib.Core.Path.{◌≡◌}
 use mathlib.Core.Bool.{cond}
-use mathlib.Core.Logic.{⊎_elim}
-use lib.ListN.{length, length-set}
+use lib.ListN.{length}
 use lib.Ieee.{nan}
 use Rattle.scope.specs.Gauge.{in_cluster}
 use Rattle.intake.specs.Columns.{at}
-use Rattle.intake.proofs.Columns.{whole_rewritten, untouched}
-use Rattle.intake.proofs.InPlace.{so_far, none_rewritten, one_rewritten, one_left}
+use Rattle.intake.proofs.InPlace.{so_far}
 use Rattle.layout.specs.Turns.{as_turn, turned_x, turned_y}
-use Rattle.layout.proofs.Members.{is_member, is_other}
 use Rattle.layout.proofs.gauge.all_turned.Given as goal
 
 abbrev pub invariant-loop-i : goal.invariant-loop-i

@@ -1,15 +1,10 @@
 -- `centres_range` meets its contract: after i circles the range is that of the first i.
 use Prim.Native.Nat.{◌-◌, ◌≤◌}
-use native.Mathlib.Omega.{arith}
-use borrow.Author.Rules.{rules}
-use mathlib.Core.Path.{◌≡◌, ◌∙◌}
-use mathlib.Core.Logic.{⊎_elim}
+use mathlib.Core.Path.{◌≡◌}
 use lib.ListN.{length}
 use Rattle.scope.specs.Gauge.{in_cluster}
 use Rattle.intake.specs.Columns.{at}
 use Rattle.layout.specs.Ranges.{range_over}
-use Rattle.layout.proofs.Members.{is_member, is_other}
-use Rattle.layout.proofs.Ranges.{none_in_range, one_in_range, one-passed}
 use Rattle.layout.proofs.gauge.centres_range.Given as goal
 
 abbrev pub invariant-loop-i : goal.invariant-loop-i

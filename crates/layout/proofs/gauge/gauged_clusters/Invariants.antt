@@ -1,14 +1,11 @@
 -- `gauged_clusters` meets its contract, cluster by cluster.
 use Prim.Native.Nat.{◌-◌, ◌≤◌}
-use native.Mathlib.Omega.{arith}
-use native.Mathlib.Numerals.{add-one}
-use borrow.Author.Rules.{rules}
-use mathlib.Core.Path.{◌≡◌, refl}
+use mathlib.Core.Path.{◌≡◌}
 use mathlib.Core.List.{List}
 use lib.ListN.{length}
 use lib.Ieee.{Float}
 use Rattle.scope.specs.Runs.{in_turn}
-use Rattle.scope.specs.Gauge.{in_cluster, rotate_cluster, gauged}
+use Rattle.scope.specs.Gauge.{in_cluster, rotate_cluster}
 use Rattle.intake.specs.Columns.{circles_of, Lifted}
 use Rattle.layout.proofs.gauge.gauged_clusters.Given as goal
 

@@ -1,5 +1,4 @@
 -- `is_flat` meets its contract.
-use borrow.Author.Rules.{rules}
 use lib.Ieee.{of_bits}
 use Rattle.scope.specs.Numbers.{e_10}
 use Rattle.layout.proofs.gauge.is_flat.Goals as goal

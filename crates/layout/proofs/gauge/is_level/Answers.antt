@@ -1,5 +1,4 @@
 -- `is_level` meets its contract.
-use borrow.Author.Rules.{rules}
 use Rattle.scope.specs.Gauge.{level}
 use Rattle.layout.proofs.gauge.is_level.Goals as goal
 

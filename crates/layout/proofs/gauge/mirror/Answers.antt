@@ -1,5 +1,4 @@
 -- `mirror` meets its contract.
-use borrow.Author.Rules.{rules}
 use mathlib.Core.Path.{ap, ◌∙◌}
 use Rattle.layout.specs.Ranges.{middle_of}
 use Rattle.layout.specs.Turns.{mirrored_at, mirrored}

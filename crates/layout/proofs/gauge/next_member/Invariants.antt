@@ -1,13 +1,9 @@
 -- `next_member` meets its contract: no circle from the start up to i is in the cluster.
 use Prim.Native.Nat.{ℕ, ◌-◌, ◌≤◌, ◌<◌}
-use native.Mathlib.Omega.{arith}
-use native.Mathlib.Decide.{dec_lt}
-use borrow.Author.Rules.{rules}
 use mathlib.Core.Path.{◌≡◌}
 use mathlib.Core.Bool.{false}
 use lib.ListN.{length}
 use Rattle.scope.specs.Gauge.{in_cluster}
-use Rattle.layout.proofs.Members.{is_member, is_other}
 use Rattle.layout.proofs.gauge.next_member.Given as goal
 
 abbrev pub invariant-loop-i : goal.invariant-loop-i

@@ -1,5 +1,4 @@
 -- `rotate_cluster` meets its contract: without a second circle all stay, else the lists are turned and mirrored.
-use borrow.Author.Rules.{rules}
 use lib.ListN.{length}
 use Rattle.scope.specs.Gauge.{in_cluster}
 use Rattle.layout.proofs.Members.{first_is_least, none_then_none, second_is_next}

@@ -1,5 +1,4 @@
 -- `turn_level` meets its contract: no turn, or that of both coordinates.
-use borrow.Author.Rules.{rules}
 use mathlib.Core.Path.{sym, ◌∙◌}
 use Rattle.scope.specs.Gauge.{in_cluster}
 use Rattle.layout.specs.Turns.{turned_xs, turned_ys}

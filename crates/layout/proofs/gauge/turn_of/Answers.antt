@@ -1,5 +1,4 @@
 -- `turn_of` meets its contract.
-use borrow.Author.Rules.{rules}
 use Rattle.scope.specs.Gauge.{turn}
 use Rattle.layout.proofs.gauge.turn_of.Goals as goal
 

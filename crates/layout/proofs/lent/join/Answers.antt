@@ -4,7 +4,7 @@ use native.Mathlib.Omega.{arith}
 use mathlib.Core.Path.{◌≡◌, ◌∙◌, refl}
 use lib.ListN.{length, length-set}
 use Rattle.scope.specs.Links.{nowhere}
-use Rattle.layout.proofs.Recentred.{reached, reached_none, reached_twice, reached_all}
+use Rattle.layout.proofs.Recentred.{reached_none, reached_twice, reached_all}
 use Rattle.layout.proofs.lent.join.Goals as goal
 
 pub loop-i-init : goal.loop-i-init

@@ -1,11 +1,8 @@
 -- `recentred` meets its contract, circle by circle.
-use Prim.Native.Nat.{◌-◌, ◌≤◌}
 use native.Mathlib.Omega.{arith}
 use mathlib.Core.Path.{◌≡◌, ◌∙◌}
-use lib.ListN.{length}
 use Rattle.scope.specs.Links.{nowhere}
-use Rattle.intake.specs.Limits.{max_circles}
-use Rattle.layout.proofs.Recentred.{reached, reached_none, reached_next, reached_all}
+use Rattle.layout.proofs.Recentred.{reached_none, reached_next, reached_all}
 use Rattle.layout.proofs.lent.recentred.Goals as goal
 
 pub loop-i-init : goal.loop-i-init

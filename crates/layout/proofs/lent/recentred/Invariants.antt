@@ -1,11 +1,9 @@
 -- `recentred` meets its contract, circle by circle.
 use Prim.Native.Nat.{◌-◌, ◌≤◌}
-use native.Mathlib.Omega.{arith}
-use mathlib.Core.Path.{◌≡◌, ◌∙◌}
+use mathlib.Core.Path.{◌≡◌}
 use lib.ListN.{length}
-use Rattle.scope.specs.Links.{nowhere}
 use Rattle.intake.specs.Limits.{max_circles}
-use Rattle.layout.proofs.Recentred.{reached, reached_none, reached_next, reached_all}
+use Rattle.layout.proofs.Recentred.{reached}
 use Rattle.layout.proofs.lent.recentred.Given as goal
 
 abbrev pub invariant-loop-i : goal.invariant-loop-i

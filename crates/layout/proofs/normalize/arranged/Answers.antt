@@ -1,7 +1,6 @@
 -- `arranged` meets its contract: each step has its equation, and together they are the arrangement.
 use native.Mathlib.Omega.{arith}
 use mathlib.Core.Path.{◌∙◌}
-use borrow.Author.Rules.{rules}
 use Rattle.clustering.specs.Answers.{grouped}
 use Rattle.layout.proofs.WholeSteps.{accepted_lifted, accepted-paired, room_for_numbers, few_clusters, numbers-inside, length-numbers, clusters_packable, whole-result, whole-circles}
 use Rattle.layout.proofs.normalize.arranged.Goals as goal

@@ -1,6 +1,5 @@
 -- `boxed` meets its contract: the lists are those of the boxes, and so is the padding.
 use mathlib.Core.Path.{◌∙◌}
-use borrow.Author.Rules.{rules}
 use Rattle.layout.proofs.ClusterBoxes.{padding_shown}
 use Rattle.layout.proofs.normalize.boxed.Goals as goal
 

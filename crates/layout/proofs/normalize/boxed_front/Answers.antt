@@ -1,6 +1,5 @@
 -- `boxed_front` meets its contract: the boxes stand in the front of the lists.
 use mathlib.Core.Path.{sym, ◌∙◌}
-use borrow.Author.Rules.{rules}
 use Rattle.layout.proofs.PackedClusters.{part_length, boxes_in_front}
 use Rattle.layout.proofs.normalize.boxed_front.Goals as goal
 

@@ -2,7 +2,6 @@
 use native.Mathlib.Nat.{sub-zero}
 use native.Mathlib.Omega.{arith}
 use mathlib.Core.Path.{sym, ◌∙◌}
-use borrow.Author.Rules.{rules}
 use Rattle.layout.proofs.PackedClusters.{part_length}
 use Rattle.layout.proofs.FrontLayouts.{bare_doubles, laid_accepted}
 use Rattle.layout.proofs.normalize.in_front.Goals as goal

@@ -17,5 +17,8 @@ returns c =
     let a = c.args in
     let b = c.boxed_front-padding.ensures in
     let packing = c.pack_sides.ensures in
-    let long = boxes-length a.count a.numbers.now _ in record { padding = b.padding; circles = packed_by a.count a.numbers.now a.factor a.proportion a.xs.now a.ys.now a.radii.now p.0 p.2 p.3 p.4 p.5 c.requires.1 long _ _ _ _ b.lists p.6 _ _ _ _ _ _ _ _ b.padding packing.number
-          packing.x packing.y c.shift.ensures c.shift-2.ensures }
+    let long = boxes-length a.count a.numbers.now _ in record {
+      padding = b.padding;
+      circles = packed_by a.count a.numbers.now a.factor a.proportion a.xs.now a.ys.now a.radii.now p.0 p.2 p.3 p.4 p.5 c.requires.1 long _ _ _ _ b.lists p.6 _ _ _ _ _ _ _ _ b.padding packing.number
+          packing.x packing.y c.shift.ensures c.shift-2.ensures;
+    }

@@ -1,5 +1,4 @@
 -- `normalize_layout_with_clusters_by_value` meets its contract: the core's answer for the columns of the first n circles, written back.
-use borrow.Author.Rules.{rules}
 use Rattle.layout.proofs.ArrayCalls.{first-answer, first_fits, first-promises}
 use Rattle.layout.proofs.normalize.normalize_layout_with_clusters_by_value.Goals as goal
 

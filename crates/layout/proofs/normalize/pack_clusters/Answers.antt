@@ -1,5 +1,4 @@
 -- `pack_clusters` meets its contract: one cluster stays, several go to the grid.
-use borrow.Author.Rules.{rules}
 use lib.Ieee.{of_bits}
 use Rattle.layout.proofs.PackedClusters.{few_clusters_stay}
 use Rattle.layout.proofs.normalize.pack_clusters.Goals as goal

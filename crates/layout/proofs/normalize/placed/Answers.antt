@@ -1,7 +1,6 @@
 -- `placed` meets its contract: gauge, packing and centring in turn.
 use native.Mathlib.Omega.{arith}
 use mathlib.Core.Path.{ap, ◌∙◌}
-use borrow.Author.Rules.{rules}
 use Rattle.scope.specs.Centring.{centred_layout}
 use Rattle.layout.proofs.normalize.placed.Goals as goal
 

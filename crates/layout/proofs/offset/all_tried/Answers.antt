@@ -1,17 +1,13 @@
 -- `all_tried` meets its contract: the circles before i have been tried in turn, and the mask has no bit from i on.
-use Prim.Native.Nat.{◌+◌, ◌-◌, ◌^◌, ◌<◌, ◌≤◌}
+use Prim.Native.Nat.{◌+◌, ◌<◌, ◌≤◌}
 use native.Mathlib.Omega.{arith}
-use mathlib.Core.List.{List}
-use mathlib.Core.Logic.{⊎_elim}
 use mathlib.Core.Path.{refl, ◌∙◌, ◌≡◌}
 use lib.ListN.{length}
-use Rattle.scope.specs.Links.{Region}
 use Rattle.scope.specs.Runs.{in_turn}
 use Rattle.laws.proofs.MaskBits.{put_grows, put_fits}
 use Rattle.intake.specs.Columns.{circles_of}
 use Rattle.intake.proofs.Columns.{length_shown}
-use Rattle.layout.specs.Offsets.{ParentsOf, moment}
-use Rattle.layout.proofs.OffsetMoves.{offset_all, tried_next, tried_first}
+use Rattle.layout.proofs.OffsetMoves.{offset_all, tried_next}
 use Rattle.layout.proofs.offset.all_tried.Goals as goal
 use Rattle.layout.proofs.offset.all_tried.Goals.{then-tried, else-tried}
 
@@ -35,19 +31,22 @@ loop-i-preserved c =
     let long-x = t.auto.xs ∙ l.invariant.1 in
     let long-y = t.auto.ys ∙ l.invariant.2 in
     let tries = rw l.invariant.1 at t.ensures in
-    elim c.if-tried.branch [ then-tried w ↦ rw (w.mask-is, w.only-mask.ensures) (
-      more,
-      long-x,
-      long-y,
-      put_grows l.mask l.i l.invariant.3,
-      λ rs shows. tried_next _ _ a.parents.now shows _ _ _ l.i below (l.invariant.4 rs shows) (rw w.if-tried.true at (tries rs l.mask shows)),
-    ) | else-tried w ↦ rw w.mask-is (
-      more,
-      long-x,
-      long-y,
-      omega (arith, put_grows l.mask l.i l.invariant.3),
-      λ rs shows. tried_next _ _ a.parents.now shows _ _ _ l.i below (l.invariant.4 rs shows) (rw w.if-tried.false at (tries rs l.mask shows)),
-    ) ]
+    elim c.if-tried.branch [
+      | then-tried w ↦ rw (w.mask-is, w.only-mask.ensures) (
+        more,
+        long-x,
+        long-y,
+        put_grows l.mask l.i l.invariant.3,
+        λ rs shows. tried_next _ _ a.parents.now shows _ _ _ l.i below (l.invariant.4 rs shows) (rw w.if-tried.true at (tries rs l.mask shows)),
+      )
+      | else-tried w ↦ rw w.mask-is (
+        more,
+        long-x,
+        long-y,
+        omega (arith, put_grows l.mask l.i l.invariant.3),
+        λ rs shows. tried_next _ _ a.parents.now shows _ _ _ l.i below (l.invariant.4 rs shows) (rw w.if-tried.false at (tries rs l.mask shows)),
+      )
+    ]
 
 pub returns : goal.returns
 returns c =

@@ -1,17 +1,12 @@
 -- `all_tried` meets its contract: the circles before i have been tried in turn, and the mask has no bit from i on.
-use Prim.Native.Nat.{◌+◌, ◌-◌, ◌^◌, ◌<◌, ◌≤◌}
-use native.Mathlib.Omega.{arith}
+use Prim.Native.Nat.{◌-◌, ◌^◌, ◌<◌, ◌≤◌}
 use mathlib.Core.List.{List}
-use mathlib.Core.Logic.{⊎_elim}
-use mathlib.Core.Path.{refl, ◌∙◌, ◌≡◌}
+use mathlib.Core.Path.{◌≡◌}
 use lib.ListN.{length}
 use Rattle.scope.specs.Links.{Region}
-use Rattle.scope.specs.Runs.{in_turn}
-use Rattle.laws.proofs.MaskBits.{put_grows, put_fits}
 use Rattle.intake.specs.Columns.{circles_of}
-use Rattle.intake.proofs.Columns.{length_shown}
 use Rattle.layout.specs.Offsets.{ParentsOf, moment}
-use Rattle.layout.proofs.OffsetMoves.{offset_all, tried_next, tried_first}
+use Rattle.layout.proofs.OffsetMoves.{tried_first}
 use Rattle.layout.proofs.offset.all_tried.Given as goal
 
 abbrev pub invariant-loop-i : goal.invariant-loop-i

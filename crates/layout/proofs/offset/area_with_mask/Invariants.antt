@@ -1,13 +1,9 @@
 -- `area_with_mask` meets its contract: no region before k has the mask.
 use Prim.Native.Nat.{◌-◌, ◌≤◌}
-use native.Mathlib.Omega.{arith}
-use mathlib.Core.Path.{refl, sym, ◌∙◌, ◌≡◌}
-use lib.Ieee.{of_bits}
+use mathlib.Core.Path.{◌≡◌}
 use lib.ListN.{drop, length}
-use borrow.Author.Tests.{eq-eqb, ne_eqb}
 use Rattle.scope.specs.Links.{regions}
 use Rattle.scope.specs.Offset.{area_with_mask}
-use Rattle.layout.proofs.RegionFolds.{area_next, area-none}
 use Rattle.layout.proofs.offset.area_with_mask.Given as goal
 
 abbrev pub invariant-loop-k : goal.invariant-loop-k

@@ -1,6 +1,5 @@
 -- `at` meets its contract.
 use mathlib.Core.Path.{sym}
-use borrow.Author.Rules.{rules}
 use Rattle.intake.proofs.Columns.{shown_at}
 use Rattle.layout.proofs.offset.at.Goals as goal
 

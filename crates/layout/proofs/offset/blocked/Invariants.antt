@@ -1,14 +1,9 @@
 -- `blocked` meets its contract: no circle before k is in the way.
 use Prim.Native.Nat.{◌-◌, ◌≤◌}
-use native.Mathlib.Omega.{arith}
-use mathlib.Core.Path.{sym, ◌∙◌}
 use lib.ListN.{length}
-use borrow.Author.Count.{below_more}
-use borrow.Author.Rules.{rules}
 use Rattle.intake.specs.Columns.{circles_of}
-use Rattle.intake.proofs.Columns.{length_shown}
 use Rattle.laws.proofs.Runs.{NoneBelow}
-use Rattle.layout.proofs.OffsetMoves.{barred, not_held, way_barred, way_free}
+use Rattle.layout.proofs.OffsetMoves.{barred}
 use Rattle.layout.proofs.offset.blocked.Given as goal
 
 abbrev pub invariant-loop-k : goal.invariant-loop-k

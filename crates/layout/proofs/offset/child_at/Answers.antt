@@ -1,5 +1,4 @@
 -- `child_at` meets its contract, step by step.
-use borrow.Author.Rules.{rules}
 use Rattle.scope.specs.Offset.{child_at, translated}
 use Rattle.layout.proofs.offset.child_at.Goals as goal
 

@@ -1,6 +1,5 @@
 -- `contained_child_parent` meets its contract: no partner, a region of its own, or the one partner.
 use native.Mathlib.Omega.{arith}
-use borrow.Author.Rules.{rules}
 use Rattle.layout.proofs.ChildParents.{no_partner, own_region, partner_is_parent}
 use Rattle.layout.proofs.offset.contained_child_parent.Goals as goal
 

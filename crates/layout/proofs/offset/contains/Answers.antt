@@ -1,6 +1,5 @@
 -- `contains` meets its contract.
 use mathlib.Core.Path.{refl}
-use borrow.Author.Rules.{rules}
 use Rattle.scope.specs.Distance.{contains}
 use Rattle.layout.proofs.offset.contains.Goals as goal
 

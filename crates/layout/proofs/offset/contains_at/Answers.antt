@@ -1,5 +1,4 @@
 -- `contains_at` meets its contract, step by step.
-use borrow.Author.Rules.{rules}
 use Rattle.scope.specs.Offset.{contains_at}
 use Rattle.layout.proofs.offset.contains_at.Goals as goal
 

@@ -1,5 +1,4 @@
 -- `diagonal` meets its contract, step by step.
-use borrow.Author.Rules.{rules}
 use Rattle.scope.specs.Offset.{diagonal}
 use Rattle.layout.proofs.offset.diagonal.Goals as goal
 

@@ -1,6 +1,5 @@
 -- `direction` meets its contract: each way out knows how the test went.
 use lib.Ieee.{of_bits}
-use borrow.Author.Rules.{rules}
 use Rattle.scope.specs.Numbers.{e_9}
 use Rattle.scope.specs.Offset.{direction}
 use Rattle.layout.proofs.offset.direction.Goals as goal

@@ -1,9 +1,7 @@
 -- `doubled` meets its contract: the answer is that of the doublings that are left, from hi.
-use native.Mathlib.Omega.{arith}
-use mathlib.Core.Path.{refl, sym, ◌∙◌, ◌≡◌}
+use mathlib.Core.Path.{refl, sym, ◌∙◌}
 use lib.Ieee.{of_bits}
-use borrow.Author.Rules.{rules}
-use Rattle.scope.specs.Offset.{contains_at, doubled, doublings}
+use Rattle.scope.specs.Offset.{doublings}
 use Rattle.layout.proofs.OffsetSearch.{doubled-done, doubled_further, doubled_stops}
 use Rattle.layout.proofs.offset.doubled.Goals as goal
 

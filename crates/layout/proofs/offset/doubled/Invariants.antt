@@ -1,11 +1,6 @@
 -- `doubled` meets its contract: the answer is that of the doublings that are left, from hi.
-use native.Mathlib.Omega.{arith}
-use mathlib.Core.Path.{refl, sym, ◌∙◌, ◌≡◌}
-use lib.Ieee.{of_bits}
-use borrow.Author.Rules.{rules}
-use borrow.Author.Tests.{not-false, not-true}
+use mathlib.Core.Path.{◌≡◌}
 use Rattle.scope.specs.Offset.{contains_at, doubled, doublings}
-use Rattle.layout.proofs.OffsetSearch.{doubled-done, doubled_further, doubled_stops}
 use Rattle.layout.proofs.offset.doubled.Given as goal
 
 abbrev pub invariant-loop-left : goal.invariant-loop-left

@@ -1,13 +1,13 @@
 -- `find_parents` meets its contract: the parents of the first i circles stand in the list, and while `any` is false none of them has one.
-use Prim.Native.Nat.{◌-◌, ◌<◌, ℕ, ◌≤◌}
+use Prim.Native.Nat.{◌<◌}
 use native.Mathlib.Omega.{arith}
-use mathlib.Core.Bool.{false, false≢true}
+use mathlib.Core.Bool.{false≢true}
 use mathlib.Core.Option.{none}
 use mathlib.Core.Path.{refl, sym, ◌∙◌, ◌≡◌}
 use lib.ListN.{length, length-set}
 use Rattle.scope.specs.Links.{regions}
 use Rattle.scope.specs.Offset.{parent_of}
-use Rattle.layout.specs.Offsets.{numbered, parent_at}
+use Rattle.layout.specs.Offsets.{numbered}
 use Rattle.layout.proofs.ChildParents.{at_tolerance, numbered_past, one_more-number}
 use Rattle.layout.proofs.offset.find_parents.Goals as goal
 use Rattle.layout.proofs.offset.find_parents.Goals.{then-p-n, else-p-n}
@@ -31,8 +31,8 @@ loop-i-preserved c =
       one_more-number (λ j x. numbered n x ≡ parent_of n rs j) l.parents l.i p.result inside l.invariant.2 here,
       λ e.
           elim c.if-p-n.branch [
-            then-p-n w ↦ absurd (false≢true (sym e ∙ w.any-is))
-          | else-p-n w ↦ one_more-number (λ j x. numbered n x ≡ none) l.parents l.i p.result inside (l.invariant.3 (sym w.any-is ∙ e)) (numbered_past n p.result w.if-p-n.false)
+            | then-p-n w ↦ absurd (false≢true (sym e ∙ w.any-is))
+            | else-p-n w ↦ one_more-number (λ j x. numbered n x ≡ none) l.parents l.i p.result inside (l.invariant.3 (sym w.any-is ∙ e)) (numbered_past n p.result w.if-p-n.false)
           ],
     )
 

@@ -1,15 +1,12 @@
 -- `find_parents` meets its contract: the parents of the first i circles stand in the list, and while `any` is false none of them has one.
 use Prim.Native.Nat.{◌-◌, ◌<◌, ℕ, ◌≤◌}
-use native.Mathlib.Omega.{arith}
-use mathlib.Core.Bool.{false, false≢true}
-use mathlib.Core.Logic.{⊎_elim}
+use mathlib.Core.Bool.{false}
 use mathlib.Core.Option.{none}
-use mathlib.Core.Path.{refl, sym, ◌∙◌, ◌≡◌}
-use lib.ListN.{length, length-set}
+use mathlib.Core.Path.{◌≡◌}
+use lib.ListN.{length}
 use Rattle.scope.specs.Links.{regions}
 use Rattle.scope.specs.Offset.{parent_of}
-use Rattle.layout.specs.Offsets.{numbered, parent_at}
-use Rattle.layout.proofs.ChildParents.{at_tolerance, numbered_past, one_more-number}
+use Rattle.layout.specs.Offsets.{parent_at}
 use Rattle.layout.proofs.offset.find_parents.Given as goal
 
 abbrev pub invariant-loop-i : goal.invariant-loop-i

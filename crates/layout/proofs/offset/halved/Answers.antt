@@ -1,11 +1,7 @@
 -- `halved` meets its contract: the answer is that of the halvings that are left, from lo to hi.
-use native.Mathlib.Omega.{arith}
-use mathlib.Core.Logic.{⊎_elim}
-use mathlib.Core.Path.{refl, sym, ◌∙◌, ◌≡◌}
+use mathlib.Core.Path.{refl, sym, ◌∙◌}
 use lib.Ieee.{of_bits}
-use borrow.Author.Rules.{rules}
-use Rattle.scope.specs.Numbers.{nought}
-use Rattle.scope.specs.Offset.{contains_at, halved, halvings}
+use Rattle.scope.specs.Offset.{halvings}
 use Rattle.layout.proofs.OffsetSearch.{halved-done, halved-down, halved-up}
 use Rattle.layout.proofs.offset.halved.Goals as goal
 use Rattle.layout.proofs.offset.halved.Goals.{then-contains_at, else-contains_at}

@@ -1,5 +1,4 @@
 -- `holds_above` meets its contract.
-use borrow.Author.Rules.{rules}
 use Rattle.layout.proofs.offset.holds_above.Goals as goal
 
 pub returns-then-holds : goal.returns-then-holds

@@ -1,6 +1,5 @@
 -- `in_the_way` meets its contract.
 use mathlib.Core.Path.{refl, ◌∙◌}
-use borrow.Author.Rules.{rules}
 use borrow.Author.Tests.{eq-eqb, ne_eqb}
 use Rattle.geometry.proofs.Meeting.{meeting_is_overlap}
 use Rattle.layout.proofs.offset.in_the_way.Goals as goal

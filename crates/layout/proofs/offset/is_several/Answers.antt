@@ -2,7 +2,6 @@
 use mathlib.Core.Path.{ap, ◌∙◌}
 use mathlib.Core.Bool.{false≢true}
 use lib.Bits.{bit_and}
-use borrow.Author.Rules.{rules}
 use borrow.Author.Tests.{not-true, eqb-false}
 use Prim.Native.Nat.{ℕ, ◌-◌}
 use Rattle.layout.proofs.LoneBits.{nothing_in_common}

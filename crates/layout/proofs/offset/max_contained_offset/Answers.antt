@@ -1,7 +1,6 @@
 -- `max_contained_offset` meets its contract: each way out knows how the tests went.
 use mathlib.Core.Path.{sym, ◌∙◌}
 use lib.Ieee.{of_bits}
-use borrow.Author.Rules.{rules}
 use Rattle.scope.specs.Offset.{max_contained_offset}
 use Rattle.layout.proofs.offset.max_contained_offset.Goals as goal
 

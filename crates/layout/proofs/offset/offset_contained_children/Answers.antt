@@ -1,6 +1,5 @@
 -- `offset_contained_children` meets its contract: of fewer than two circles, or where none has a parent, nothing is moved.
 use mathlib.Core.Path.{refl, ap, ◌∙◌}
-use borrow.Author.Rules.{rules}
 use Rattle.scope.specs.Links.{regions}
 use Rattle.scope.specs.Offset.{Moved}
 use Rattle.intake.specs.Columns.{circles_of}

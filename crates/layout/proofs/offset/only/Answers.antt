@@ -1,5 +1,4 @@
 -- `only` meets its contract: a power of two below 2^64 is not cut.
-use borrow.Author.Rules.{rules}
 use Rattle.laws.proofs.PackedRows.{single_shifted}
 use Rattle.layout.proofs.offset.only.Goals as goal
 

@@ -1,10 +1,7 @@
 -- `only_child` meets its contract: the children among the first i circles are counted.
-use Prim.Native.Nat.{◌-◌, ◌≤◌}
 use native.Mathlib.Omega.{arith}
-use mathlib.Core.Logic.{⊎_elim}
 use mathlib.Core.Path.{refl, sym, ◌∙◌, ◌≡◌}
 use lib.ListN.{length}
-use borrow.Author.Rules.{rules}
 use Rattle.scope.specs.Offset.{is_parent}
 use Rattle.scope.specs.Runs.{many}
 use Rattle.layout.specs.Offsets.{parent_at}

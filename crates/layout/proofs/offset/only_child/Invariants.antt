@@ -1,14 +1,10 @@
 -- `only_child` meets its contract: the children among the first i circles are counted.
 use Prim.Native.Nat.{◌-◌, ◌≤◌}
-use native.Mathlib.Omega.{arith}
-use mathlib.Core.Logic.{⊎_elim}
-use mathlib.Core.Path.{refl, sym, ◌∙◌, ◌≡◌}
+use mathlib.Core.Path.{◌≡◌}
 use lib.ListN.{length}
-use borrow.Author.Rules.{rules}
 use Rattle.scope.specs.Offset.{is_parent}
 use Rattle.scope.specs.Runs.{many}
 use Rattle.layout.specs.Offsets.{parent_at}
-use Rattle.layout.proofs.ChildParents.{is_its_parent, is_not_its_parent, many_as_before, many_more}
 use Rattle.layout.proofs.offset.only_child.Given as goal
 
 abbrev pub invariant-loop-i : goal.invariant-loop-i

@@ -1,7 +1,6 @@
 -- `parent_of` meets its contract: each way out knows what was found, and whether the child is smaller.
 use native.Mathlib.Omega.{arith}
 use lib.Ieee.{of_bits}
-use borrow.Author.Rules.{rules}
 use Rattle.scope.specs.Numbers.{e_6}
 use Rattle.scope.specs.Offset.{smaller}
 use Rattle.layout.proofs.ChildParents.{child_not_smaller, child-smaller, none-smaller}

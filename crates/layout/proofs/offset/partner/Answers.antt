@@ -1,13 +1,11 @@
 -- `partner` meets its contract: the partners in the first k regions are known, and two of them are never one again.
-use Prim.Native.Nat.{◌-◌, ◌+◌, ◌≤◌}
+use Prim.Native.Nat.{◌+◌}
 use native.Mathlib.Omega.{arith}
-use mathlib.Core.Path.{sym, ap, ◌∙◌, ◌≡◌}
-use lib.ListN.{length}
-use borrow.Author.Rules.{rules}
+use mathlib.Core.Path.{sym, ap, ◌∙◌}
 use Rattle.scope.specs.Offset.{other_bits}
 use Rattle.geometry.proofs.Numbers.{first_holds}
 use Rattle.layout.proofs.ChildParents.{alone, several_partners}
-use Rattle.layout.proofs.RegionFolds.{gathered, gathered_all, gathered_left, gathered_none, gathered_taken, join_others}
+use Rattle.layout.proofs.RegionFolds.{gathered_all, gathered_left, gathered_none, gathered_taken, join_others}
 use Rattle.layout.proofs.offset.partner.Goals as goal
 use Rattle.layout.proofs.offset.partner.Goals.{then-holds_above+else-is_several, else-holds_above}
 
@@ -32,10 +30,10 @@ loop-k-preserved c =
     let e = sym c.holds_above.ensures in (
       omega arith,
       elim c.if-holds_above.branch [
-        then-holds_above+else-is_several w ↦
-        w.others-is
-        ∙ rw w.without-others.ensures (gathered_taken a.masks.now a.areas.now c.requires.2 (join_others a.i) 0 a.i a.tol l.k l.others h (e ∙ w.if-holds_above.true) l.invariant.1)
-      | else-holds_above w ↦ w.others-is ∙ gathered_left a.masks.now a.areas.now c.requires.2 (join_others a.i) 0 a.i a.tol l.k l.others h (e ∙ w.if-holds_above.false) l.invariant.1
+        | then-holds_above+else-is_several w ↦
+            w.others-is
+            ∙ rw w.without-others.ensures (gathered_taken a.masks.now a.areas.now c.requires.2 (join_others a.i) 0 a.i a.tol l.k l.others h (e ∙ w.if-holds_above.true) l.invariant.1)
+        | else-holds_above w ↦ w.others-is ∙ gathered_left a.masks.now a.areas.now c.requires.2 (join_others a.i) 0 a.i a.tol l.k l.others h (e ∙ w.if-holds_above.false) l.invariant.1
       ],
     )
 

@@ -1,13 +1,8 @@
 -- `reposition_contained_child` meets its contract: each way out knows how the tests before it went.
-use mathlib.Core.Bool.{not, ◌||◌, cond}
-use mathlib.Core.Option.{none, some}
-use mathlib.Core.Path.{refl, sym, ◌∙◌, ◌≡◌}
+use mathlib.Core.Path.{refl, sym, ◌∙◌}
 use lib.Ieee.{of_bits}
-use borrow.Author.Rules.{rules}
-use Rattle.shapes.specs.declared.circle.Circle.{Circle}
-use Rattle.scope.specs.Numbers.{◌*ᶠ◌, ◌≤ᶠ◌, nought, half}
-use Rattle.scope.specs.Distance.{contains}
-use Rattle.scope.specs.Offset.{blocked, child_at, move, repositioned, there}
+use Rattle.scope.specs.Numbers.{◌*ᶠ◌, half}
+use Rattle.scope.specs.Offset.{child_at}
 use Rattle.intake.specs.Columns.{circles_of}
 use Rattle.layout.proofs.OffsetMoves.{repositioned_by}
 use Rattle.layout.proofs.offset.reposition_contained_child.Goals as goal

@@ -1,7 +1,6 @@
 -- `single` meets its contract: the only bit of a mask stands above as many zeros as its number.
 use native.Mathlib.Omega.{arith}
 use mathlib.Core.Path.{sym, ◌∙◌}
-use borrow.Author.Rules.{rules}
 use Rattle.layout.proofs.ChildParents.{alone_at, alone_past, alone_other}
 use Rattle.intake.proofs.TrailingZeros.{few_zeros}
 use Rattle.layout.proofs.offset.single.Goals as goal

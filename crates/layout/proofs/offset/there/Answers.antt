@@ -1,6 +1,5 @@
 -- `there` meets its contract.
 use lib.Ieee.{of_bits}
-use borrow.Author.Rules.{rules}
 use Rattle.scope.specs.Numbers.{e_9}
 use Rattle.scope.specs.Offset.{there}
 use Rattle.layout.proofs.offset.there.Goals as goal

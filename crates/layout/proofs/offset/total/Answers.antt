@@ -1,14 +1,10 @@
 -- `total` meets its contract: the sum over the first k regions is known.
-use Prim.Native.Nat.{◌-◌, ◌≤◌}
 use native.Mathlib.Omega.{arith}
-use mathlib.Core.Logic.{⊎_elim}
-use mathlib.Core.Path.{sym, ◌∙◌, ◌≡◌}
+use mathlib.Core.Path.{sym, ◌∙◌}
 use lib.Ieee.{of_bits}
-use lib.ListN.{length}
-use borrow.Author.Rules.{rules}
 use Rattle.scope.specs.Numbers.{nought}
 use Rattle.scope.specs.Offset.{total}
-use Rattle.layout.proofs.RegionFolds.{add_area, gathered, gathered_all, gathered_left, gathered_none, gathered_taken}
+use Rattle.layout.proofs.RegionFolds.{add_area, gathered_all, gathered_left, gathered_none, gathered_taken}
 use Rattle.layout.proofs.offset.total.Goals as goal
 use Rattle.layout.proofs.offset.total.Goals.{then-holds_above, else-holds_above}
 

@@ -1,17 +1,14 @@
 -- `tried` meets its contract: each way out knows what the parent is, whether it has one child, and where that goes.
 use Prim.Native.Nat.{◌+◌, ◌^◌}
 use mathlib.Core.List.{List}
-use mathlib.Core.Option.{some}
-use mathlib.Core.Path.{ap, sym, ◌∙◌, ◌≡◌}
+use mathlib.Core.Path.{ap, sym, ◌∙◌}
 use lib.ListN.{length}
-use borrow.Author.Rules.{rules}
 use Rattle.shapes.specs.declared.circle.Circle.{Circle}
-use Rattle.scope.specs.Links.{Region}
-use Rattle.scope.specs.Offset.{only_child, parents, tried}
+use Rattle.scope.specs.Offset.{parents, tried}
 use Rattle.intake.specs.Columns.{circles_of}
-use Rattle.layout.specs.Offsets.{numbered, moment, parent_at, ParentsOf}
+use Rattle.layout.specs.Offsets.{numbered, moment}
 use Rattle.layout.proofs.ChildParents.{numbered_below, numbered_past, only_child_lem}
-use Rattle.layout.proofs.OffsetMoves.{child-moved, moved_known, stays_known, tried_left, tried-moved, tried-none, tried-stays}
+use Rattle.layout.proofs.OffsetMoves.{child-moved, tried_left, tried-moved, tried-none, tried-stays}
 use Rattle.layout.proofs.offset.tried.Goals as goal
 
 pub returns-then-p-xs : goal.returns-then-p-xs

@@ -1,6 +1,5 @@
 -- `without` meets its contract: a mask with bit i is at least 2^i.
 use native.Mathlib.Omega.{arith}
-use borrow.Author.Rules.{rules}
 use Rattle.layout.proofs.MaskShifts.{held_at_least}
 use Rattle.layout.proofs.offset.without.Goals as goal
 

@@ -1,5 +1,4 @@
 -- `center_shapes_in_container` meets its contract: the circles stay, or move on both axes.
-use borrow.Author.Rules.{rules}
 use mathlib.Core.Path.{sym, ◌∙◌}
 use Rattle.layout.proofs.Settled.{circles_stay, circles-centred}
 use Rattle.layout.proofs.settling.center_shapes_in_container.Goals as goal

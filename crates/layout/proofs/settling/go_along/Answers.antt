@@ -1,5 +1,4 @@
 -- `go_along` meets its contract: both axes moved, or none.
-use borrow.Author.Rules.{rules}
 use mathlib.Core.Path.{sym, ◌∙◌}
 use Rattle.layout.specs.Settling.{along}
 use Rattle.layout.proofs.settling.go_along.Goals as goal

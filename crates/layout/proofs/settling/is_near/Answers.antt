@@ -1,5 +1,4 @@
 -- `is_near` meets its contract.
-use borrow.Author.Rules.{rules}
 use Rattle.scope.specs.Numbers.{e_12}
 use Rattle.layout.proofs.settling.is_near.Goals as goal
 

@@ -1,5 +1,4 @@
 -- `is_off` meets its contract.
-use borrow.Author.Rules.{rules}
 use Rattle.scope.specs.Numbers.{e_12}
 use Rattle.layout.proofs.settling.is_off.Goals as goal
 

@@ -1,5 +1,4 @@
 -- `placed` meets its contract.
-use borrow.Author.Rules.{rules}
 use lib.Ieee.{of_bits}
 use Rattle.layout.specs.Settling.{placed}
 use Rattle.layout.proofs.settling.placed.Goals as goal

@@ -1,5 +1,4 @@
 -- `reaches_past` meets its contract: one axis, then the other.
-use borrow.Author.Rules.{rules}
 use lib.Ieee.{of_bits}
 use Rattle.scope.specs.Numbers.{e_9}
 use Rattle.layout.specs.Settling.{past_either}

@@ -1,5 +1,4 @@
 -- `settled` meets its contract: the circles along with the container, and then in it.
-use borrow.Author.Rules.{rules}
 use Rattle.layout.proofs.Settled.{settled-along}
 use Rattle.layout.proofs.settling.settled.Goals as goal
 

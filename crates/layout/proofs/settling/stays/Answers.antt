@@ -1,5 +1,4 @@
 -- `stays` meets its contract: the three cases in turn.
-use borrow.Author.Rules.{rules}
 use borrow.Author.Tests.{eq-eqb, ne_eqb}
 use Rattle.layout.specs.Settling.{stays}
 use Rattle.layout.proofs.settling.stays.Goals as goal

@@ -1,5 +1,4 @@
 -- `root::hypot::hypot` meets its contract: a NaN first, then numbers.
-use borrow.Author.Rules.{rules}
 use Rattle.root.proofs.AnswerLaws.{number_of_test}
 use Rattle.root.proofs.OperandLaws.{nan-first, nan_second}
 use Rattle.root.proofs.hypot.hypot.Goals as goal

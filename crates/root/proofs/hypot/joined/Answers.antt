@@ -1,6 +1,5 @@
 -- `root::hypot::joined` meets its contract, by the laws of the rounded root.
 use native.Mathlib.Omega.{arith}
-use borrow.Author.Rules.{rules}
 use Rattle.root.proofs.JoinedLaws.{short-root, rounded_short, joined_is_nearest, joined_is_infinite}
 use Rattle.root.proofs.hypot.joined.Goals as goal
 

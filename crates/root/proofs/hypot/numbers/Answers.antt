@@ -1,7 +1,6 @@
 -- `root::hypot::numbers` meets its contract: the sizes alone decide, in either order.
 use mathlib.Core.Logic.{inl, inr}
 use native.Mathlib.Omega.{arith}
-use borrow.Author.Rules.{rules}
 use Rattle.root.proofs.OperandLaws.{either_order, larger-finite, larger_infinite, nearest_is_hypot}
 use Rattle.root.proofs.PatternLaws.{no_nan_up_to_infinity}
 use Rattle.root.proofs.hypot.numbers.Goals as goal

@@ -1,5 +1,4 @@
 -- `root::hypot::ordered` meets its contract: both subnormal, the smaller idle, or both in the sum.
-use borrow.Author.Rules.{rules}
 use Rattle.root.proofs.PairLaws.{small-patterns, far_patterns, near-patterns}
 use Rattle.root.proofs.hypot.ordered.Goals as goal
 

@@ -3,7 +3,7 @@ use mathlib.Core.Path.{◌≡◌, sym, subst}
 use Prim.Native.Nat.{ℕ, ◌+◌, ◌-◌, ◌*◌, ◌/◌, ◌%◌, ◌^◌, ◌≤◌}
 use native.Mathlib.Omega.{arith}
 use Rattle.root.specs.Sums.{IsNearestRootOf}
-use Rattle.root.proofs.SubnormalLaws.{Brought, brought_at_first, brought_once_more, some_digits, high_le, small-step, small-root, subnormal_is_nearest, zeros_are_nearest}
+use Rattle.root.proofs.SubnormalLaws.{brought_at_first, brought_once_more, some_digits, high_le, small-step, small-root, subnormal_is_nearest, zeros_are_nearest}
 use Rattle.root.proofs.hypot.subnormal.Goals as goal
 
 one_shifted : (x : ℕ) → x ≤ 2 ^ 52 → 1 * x % 2 ^ 64 ≡ x

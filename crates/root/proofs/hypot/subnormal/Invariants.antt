@@ -1,9 +1,6 @@
 -- `root::hypot::subnormal` meets its contract: both numbers doubled as often, and the root halved as often.
-use mathlib.Core.Path.{◌≡◌, sym, subst}
-use Prim.Native.Nat.{ℕ, ◌+◌, ◌-◌, ◌*◌, ◌/◌, ◌%◌, ◌^◌, ◌≤◌}
-use native.Mathlib.Omega.{arith}
-use Rattle.root.specs.Sums.{IsNearestRootOf}
-use Rattle.root.proofs.SubnormalLaws.{Brought, brought_at_first, brought_once_more, some_digits, high_le, small-step, small-root, subnormal_is_nearest, zeros_are_nearest}
+use Prim.Native.Nat.{◌-◌, ◌^◌}
+use Rattle.root.proofs.SubnormalLaws.{Brought}
 use Rattle.root.proofs.hypot.subnormal.Given as goal
 
 abbrev pub invariant-loop-a : goal.invariant-loop-a

@@ -1,5 +1,4 @@
 -- `root::pattern::in_units` meets its contract.
-use borrow.Author.Rules.{rules}
 use Rattle.root.proofs.ScaleLaws.{subnormal_is_units, normal_is_units}
 use Rattle.root.proofs.pattern.in_units.Goals as goal
 

@@ -1,5 +1,4 @@
 -- `root::pattern::normal` meets its contract.
-use borrow.Author.Rules.{rules}
 use Rattle.root.proofs.ScaleLaws.{field_is_normal}
 use Rattle.root.proofs.pattern.normal.Goals as goal
 

@@ -1,6 +1,5 @@
 -- `root::pattern::split` meets its contract: an odd exponent leaves one digit more.
 use native.Mathlib.Omega.{arith}
-use borrow.Author.Rules.{rules}
 use Rattle.root.proofs.ScaleLaws.{even-split, odd-split}
 use Rattle.root.proofs.pattern.split.Goals as goal
 

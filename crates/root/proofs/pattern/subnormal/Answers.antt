@@ -1,6 +1,6 @@
 -- `root::pattern::subnormal` meets its contract: each turn doubles the digits and takes one from the exponent.
 use native.Mathlib.Omega.{arith}
-use Rattle.root.proofs.ScaleLaws.{Doubled, exponent_left, shift, shifted_is_normal}
+use Rattle.root.proofs.ScaleLaws.{exponent_left, shift, shifted_is_normal}
 use Rattle.root.proofs.pattern.subnormal.Goals as goal
 
 pub overflow_sub-exponent : goal.overflow_sub-exponent

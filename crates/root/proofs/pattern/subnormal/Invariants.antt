@@ -1,6 +1,5 @@
 -- `root::pattern::subnormal` meets its contract: each turn doubles the digits and takes one from the exponent.
-use native.Mathlib.Omega.{arith}
-use Rattle.root.proofs.ScaleLaws.{Doubled, exponent_left, shift, shifted_is_normal}
+use Rattle.root.proofs.ScaleLaws.{Doubled}
 use Rattle.root.proofs.pattern.subnormal.Given as goal
 
 abbrev pub invariant-loop-digits : goal.invariant-loop-digits

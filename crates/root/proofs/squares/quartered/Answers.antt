@@ -4,7 +4,6 @@ use Prim.Native.Nat.{ℕ, ◌+◌, ◌-◌, ◌*◌, ◌/◌, ◌%◌, ◌^◌, 
 use native.Mathlib.Nat.{div-le_self}
 use native.Mathlib.Omega.{arith}
 use lib.Pow.{pow-add}
-use borrow.Author.Rules.{rules}
 use Rattle.root.proofs.SquareLaws.{rest_is, rest-small, quotient_is}
 use Rattle.root.proofs.squares.quartered.Goals as goal
 

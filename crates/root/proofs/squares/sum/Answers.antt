@@ -2,7 +2,6 @@
 use Prim.Native.Nat.{◌*◌, ◌^◌}
 use native.Mathlib.Nat.{le_of_eq}
 use native.Mathlib.Omega.{arith}
-use borrow.Author.Rules.{rules}
 use Rattle.root.proofs.SquareLaws.{added, upper_lt, first-upper, quotient_upper, added_kept, added_over_four}
 use Rattle.root.proofs.squares.sum.Goals as goal
 

@@ -1,6 +1,5 @@
 -- `root::whole::first` meets its contract.
 use native.Mathlib.Omega.{arith}
-use borrow.Author.Rules.{rules}
 use Rattle.root.proofs.WholeLaws.{parabola_bound}
 use Rattle.root.proofs.whole.first.Goals as goal
 

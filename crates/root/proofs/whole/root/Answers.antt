@@ -1,6 +1,5 @@
 -- `root::whole::root` meets its contract.
 use Prim.Native.Nat.{◌^◌}
-use borrow.Author.Rules.{rules}
 use Rattle.root.proofs.WholeLaws.{le-root, root-lt}
 use Rattle.root.proofs.whole.root.Goals as goal
 

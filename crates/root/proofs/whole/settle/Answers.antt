@@ -1,5 +1,5 @@
 -- `root::whole::settle` meets its contract: the first loop ends at or below the root, the second never passes it.
-use Prim.Native.Nat.{◌*◌, ◌+◌, ◌-◌, ◌^◌, ◌≤◌, ◌<◌}
+use Prim.Native.Nat.{◌*◌, ◌+◌, ◌≤◌}
 use native.Mathlib.Omega.{arith}
 use Rattle.root.proofs.WholeLaws.{square-fits, some_left, root_below, settled}
 use Rattle.root.proofs.whole.settle.Goals as goal

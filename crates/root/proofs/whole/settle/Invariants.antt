@@ -1,7 +1,5 @@
 -- `root::whole::settle` meets its contract: the first loop ends at or below the root, the second never passes it.
-use Prim.Native.Nat.{◌*◌, ◌+◌, ◌-◌, ◌^◌, ◌≤◌, ◌<◌}
-use native.Mathlib.Omega.{arith}
-use Rattle.root.proofs.WholeLaws.{square-fits, some_left, root_below, settled}
+use Prim.Native.Nat.{◌*◌, ◌-◌, ◌^◌, ◌≤◌, ◌<◌}
 use Rattle.root.proofs.whole.settle.Given as goal
 
 abbrev pub invariant-loop-q : goal.invariant-loop-q

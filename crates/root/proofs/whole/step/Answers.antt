@@ -1,5 +1,4 @@
 -- `root::whole::step` meets its contract.
-use borrow.Author.Rules.{rules}
 use native.Mathlib.Omega.{arith}
 use Rattle.root.proofs.WholeLaws.{quotient_lt}
 use Rattle.root.proofs.whole.step.Goals as goal

@@ -1,7 +1,6 @@
 -- `root::whole::widen` meets its contract, by the laws of the quotient and the remainder.
 use Prim.Native.Nat.{◌+◌, ◌*◌, ◌/◌, ◌%◌, ◌^◌}
 use native.Mathlib.Omega.{arith}
-use borrow.Author.Rules.{rules}
 use Rattle.root.proofs.WholeLaws.{quotient, enough_left, digits_right, digits_one_less, halves-joined}
 use Rattle.root.proofs.whole.widen.Goals as goal
 

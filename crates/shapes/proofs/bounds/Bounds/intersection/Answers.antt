@@ -22,6 +22,6 @@ returns-else-x_min-x_max c =
     let found = box_of c.maximum-x_min.result c.minimum-x_max.result c.maximum-y_min.result c.minimum-y_max.result in
     decided _ _ found false (cc)
     (elim c.else-x_min-x_max.branch [
-      else-x_min-x_max-via-then-x_min-x_max+else-y_min-y_max w ↦ rw (w.if-x_min-x_max.true, w.if-y_min-y_max.false)
-    | else-x_min-x_max-via-else-x_min-x_max w ↦ rw w.if-x_min-x_max.false
+      | else-x_min-x_max-via-then-x_min-x_max+else-y_min-y_max w ↦ rw (w.if-x_min-x_max.true, w.if-y_min-y_max.false)
+      | else-x_min-x_max-via-else-x_min-x_max w ↦ rw w.if-x_min-x_max.false
     ])

@@ -1,5 +1,4 @@
 -- `Bounds::union` meets its contract, by those of `minimum` and `maximum`.
-use borrow.Author.Rules.{rules}
 use Rattle.shapes.proofs.bounds.Bounds.union.Goals as goal
 
 pub returns : goal.returns

@@ -2,7 +2,6 @@
 use lib.Ieee.{of_bits}
 use Rattle.shapes.specs.Limits.{smallest_normal}
 use Rattle.shapes.specs.Lift.{lift}
-use borrow.Author.Rules.{rules}
 use Rattle.shapes.proofs.circle.Circle.lift.Goals as goal
 
 pub returns : goal.returns

@@ -1,5 +1,4 @@
 -- `Circle::moved_to` meets its contract, by those of `Point::new` and `lift`.
-use borrow.Author.Rules.{rules}
 use Rattle.shapes.proofs.circle.Circle.moved_to.Goals as goal
 
 pub returns : goal.returns
