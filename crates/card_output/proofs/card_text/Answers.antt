@@ -1,5 +1,4 @@
 -- `card_text` meets its contract: too long, refused, or laid out.
-use borrow.Author.Rules.{rules}
 use Rattle.scope.specs.Limits.{input_cap}
 use Rattle.card_output.proofs.Texts.{long-text, refusal-text, given-text}
 use Rattle.card_output.proofs.card_text.Goals as goal

@@ -1,12 +1,8 @@
 -- `layout_text` meets its contract: what is printed of the layout is what the definition prints.
-use borrow.Author.Rules.{rules}
-use native.Mathlib.Omega.{arith}
-use mathlib.Core.Path.{sym}
 use lib.ListN.{take}
 use Rattle.scope.specs.Numbers.{golden}
 use Rattle.scope.specs.Limits.{circle_cap}
 use Rattle.layout.specs.Answers.{laid_out}
-use Rattle.card_file.proofs.Filling.{used_length}
 use Rattle.card_output.proofs.Texts.{laid_out_prints, laid_out-fits}
 use Rattle.card_output.proofs.layout_text.Goals as goal
 

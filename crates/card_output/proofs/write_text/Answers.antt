@@ -1,10 +1,9 @@
 -- `write_text` meets its contract: the used part of the text's array is what is put.
 use Prim.Native.Nat.{◌≤◌}
 use native.Mathlib.Omega.{arith}
-use borrow.Author.Rules.{rules}
 use lib.ListN.{length}
 use Rattle.scope.specs.Print.{card_text}
-use Rattle.card_output.proofs.Putting.{put_equal, put_front, text-fits, text_part}
+use Rattle.card_output.proofs.Putting.{put_equal, put_front, text_part}
 use Rattle.card_output.proofs.Texts.{text-refused, text-written}
 use Rattle.card_output.proofs.write_text.Goals as goal
 
