@@ -5,7 +5,7 @@
 
 ghost use Rattle.card.specs.Inputs.{Held};
 
-use libc::{STDERR_FILENO, STDIN_FILENO, STDOUT_FILENO};
+use std::io::{Read, Write};
 
 // What came on standard input: so many bytes up to its end, or as many as there is room for; or a read failed.
 #[derive(Clone, Copy)]
@@ -14,27 +14,25 @@ pub enum Input {
     Failed,
 }
 
-fn main() {
+fn main(rt: HostRuntime) {
     // One byte more than is taken, so that a longer input shows.
     let mut input = [0u8; card_output::MAX_INPUT + 1];
-    let came = read_input(&mut input);
+    let came = read_input(&mut rt.stdin(), &mut input);
     match came {
-        Input::Bytes(n) => answer(&input[..n]),
-        Input::Failed => complain(b"card: the input could not be read\n"),
+        Input::Bytes(n) => answer(&rt, &input[..n]),
+        Input::Failed => complain(&rt, b"card: the input could not be read\n"),
     }
 }
 
 // Each turn reads a byte at least, or is the last.
-fn read_input(room: &mut [u8]) -> Input
+fn read_input<R: Read>(from: &mut R, room: &mut [u8]) -> Input
     ensures { Held result room.new }
 {
     let mut n: usize = 0;
     while n < room.len() {
-        let got = libc::read(STDIN_FILENO, &mut room[n..]);
-        if got < 0 {
+        let Ok(more) = from.read(&mut room[n..]) else {
             return Input::Failed;
-        }
-        let more = io::count(got, &room[n..]);
+        };
         if more == 0 {
             return Input::Bytes(n);
         }
@@ -43,15 +41,30 @@ fn read_input(room: &mut [u8]) -> Input
     Input::Bytes(n)
 }
 
-fn answer(input: &[u8]) {
+fn answer(rt: &HostRuntime, input: &[u8]) {
     let text = card_output::card_text(input);
     let bytes = text.bytes;
     let length = text.length;
-    if !io::write_all(STDOUT_FILENO, &bytes[..length]) {
-        complain(b"card: the answer could not be written\n");
+    if !write_all(&mut rt.stdout(), &bytes[..length]) {
+        complain(rt, b"card: the answer could not be written\n");
     }
 }
 
-fn complain(line: &[u8]) {
-    io::write_all(STDERR_FILENO, line);
+fn complain(rt: &HostRuntime, line: &[u8]) {
+    write_all(&mut rt.stderr(), line);
+}
+
+// Writes all the bytes, or stops at the first write that takes none or fails, and says whether all were written.
+fn write_all<W: Write>(to: &mut W, bytes: &[u8]) -> bool {
+    let mut done: usize = 0;
+    while done < bytes.len() {
+        let Ok(n) = to.write(&bytes[done..]) else {
+            return false;
+        };
+        if n == 0 {
+            return false;
+        }
+        done += n;
+    }
+    true
 }

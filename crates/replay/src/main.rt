@@ -13,9 +13,9 @@ mod places;
 mod read;
 mod touches;
 
-ghost use Rattle.std.specs.Prelude.{◌<◌};
+ghost use Rattle.std.specs.Prelude.{◌<◌, ◌≤◌, length};
 
-use libc::{STDIN_FILENO, STDOUT_FILENO};
+use std::io::{self, Read};
 
 const KINDS: usize = 15;
 
@@ -36,40 +36,36 @@ const END: usize = 1000;
 
 const AGREES: usize = 100;
 
-fn main() {
-    let tally = all();
-    line(b"distance ", tally.agreed[1], tally.seen[1]);
-    line(b"two circles ", tally.agreed[2], tally.seen[2]);
-    line(b"circle and point ", tally.agreed[3], tally.seen[3]);
-    line(b"clusters of circles ", tally.agreed[4], tally.seen[4]);
-    line(b"clusters by areas ", tally.agreed[5], tally.seen[5]);
-    line(b"boxes and lift ", tally.agreed[6], tally.seen[6]);
-    line(b"columns ", tally.agreed[7], tally.seen[7]);
-    line(b"packing ", tally.agreed[8], tally.seen[8]);
-    line(b"container ", tally.agreed[9], tally.seen[9]);
-    line(b"whole cards ", tally.agreed[10], tally.seen[10]);
-    line(b"whole layouts ", tally.agreed[11], tally.seen[11]);
-    line(b"charges ", tally.agreed[12], tally.seen[12]);
-    line(b"hypot ", tally.agreed[13], tally.seen[13]);
-    line(b"touches ", tally.agreed[15], tally.seen[15]);
-    line(b"malformed ", tally.agreed[0], tally.seen[0]);
+fn main(rt: HostRuntime) -> io::Result<()> {
+    let tally = all(&mut rt.stdin());
+    line(&rt, "distance ", tally.agreed[1], tally.seen[1])?;
+    line(&rt, "two circles ", tally.agreed[2], tally.seen[2])?;
+    line(&rt, "circle and point ", tally.agreed[3], tally.seen[3])?;
+    line(&rt, "clusters of circles ", tally.agreed[4], tally.seen[4])?;
+    line(&rt, "clusters by areas ", tally.agreed[5], tally.seen[5])?;
+    line(&rt, "boxes and lift ", tally.agreed[6], tally.seen[6])?;
+    line(&rt, "columns ", tally.agreed[7], tally.seen[7])?;
+    line(&rt, "packing ", tally.agreed[8], tally.seen[8])?;
+    line(&rt, "container ", tally.agreed[9], tally.seen[9])?;
+    line(&rt, "whole cards ", tally.agreed[10], tally.seen[10])?;
+    line(&rt, "whole layouts ", tally.agreed[11], tally.seen[11])?;
+    line(&rt, "charges ", tally.agreed[12], tally.seen[12])?;
+    line(&rt, "hypot ", tally.agreed[13], tally.seen[13])?;
+    line(&rt, "touches ", tally.agreed[15], tally.seen[15])?;
+    line(&rt, "malformed ", tally.agreed[0], tally.seen[0])
 }
 
-fn line(name: &[u8], agreed: u64, seen: u64) {
-    io::write_all(STDOUT_FILENO, name);
-    io::print_decimal(STDOUT_FILENO, agreed);
-    io::write_all(STDOUT_FILENO, b" of ");
-    io::print_decimal(STDOUT_FILENO, seen);
-    io::write_all(STDOUT_FILENO, b"\n");
+fn line(rt: &impl Print, name: &str, agreed: u64, seen: u64) -> io::Result<()> {
+    println!(rt; "{name}{agreed} of {seen}")
 }
 
 // A record of no known kind, or one that is cut, counts as one of kind 0.
-fn all() -> Tally {
+fn all<R: Read>(input: &mut R) -> Tally {
     let mut seen = [0u64; 16];
     let mut agreed = [0u64; 16];
     let mut turn: u64 = 0;
     while turn < BUDGET {
-        let outcome = next();
+        let outcome = next(input);
         if outcome == END {
             return Tally { seen, agreed };
         }
@@ -89,9 +85,9 @@ fn more(n: u64) -> u64 {
     if n < BUDGET { n + 1 } else { n }
 }
 
-fn next() -> usize {
+fn next<R: Read>(input: &mut R) -> usize {
     let mut head = [0u8; 3];
-    let got = io::read_full(STDIN_FILENO, &mut head);
+    let got = read_full(input, &mut head);
     if got == 0 {
         return END;
     }
@@ -100,8 +96,8 @@ fn next() -> usize {
     }
     let kind = wide(head[0]);
     let length = wide(head[1]) + wide(head[2]) * 256;
-    let mut body = io::large_buffer();
-    let n = read_body(&mut body, length);
+    let mut body = [0u8; 65536];
+    let n = read_body(input, &mut body, length);
     if n < length {
         return 0;
     }
@@ -121,12 +117,29 @@ fn next() -> usize {
     }
 }
 
-fn read_body(body: &mut [u8], length: usize) -> usize {
+fn read_body<R: Read>(input: &mut R, body: &mut [u8], length: usize) -> usize {
     if length <= body.len() {
-        io::read_full(STDIN_FILENO, &mut body[..length])
+        read_full(input, &mut body[..length])
     } else {
         0
     }
+}
+
+// Reads until there is no room left, the input ends or a read fails, and says how many bytes came.
+fn read_full<R: Read>(input: &mut R, room: &mut [u8]) -> usize
+    ensures { result ≤ length room.new }
+{
+    let mut done: usize = 0;
+    while done < room.len() {
+        let Ok(n) = input.read(&mut room[done..]) else {
+            break;
+        };
+        if n == 0 {
+            break;
+        }
+        done += n;
+    }
+    done
 }
 
 fn agrees_on(kind: usize, body: &[u8], length: usize) -> bool {

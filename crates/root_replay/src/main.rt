@@ -5,22 +5,36 @@ mod list;
 
 ghost use Rattle.std.specs.Prelude.{◌+◌, ◌/◌, ◌≤◌, length};
 
-use libc::{STDIN_FILENO, STDOUT_FILENO};
 use list::Pattern;
 use root::answers::Root;
+use std::io::{self, Read};
 
 // A refusal stands in the list as a NaN's pattern with its number in the digits: no root has such a pattern.
 const REFUSED: u64 = 9221120237041090560;
 
-fn main() {
-    let mut text = io::large_buffer();
-    let n = io::read_full(STDIN_FILENO, &mut text);
+fn main(rt: HostRuntime) -> io::Result<()> {
+    let mut text = [0u8; 65536];
+    let n = read_full(&mut rt.stdin(), &mut text);
     let agreed = agreeing(&text[..n]);
-    io::write_all(STDOUT_FILENO, b"root: ");
-    io::print_decimal(STDOUT_FILENO, agreed as u64);
-    io::write_all(STDOUT_FILENO, b" of ");
-    io::print_decimal(STDOUT_FILENO, lines(n) as u64);
-    io::write_all(STDOUT_FILENO, b" agree\n");
+    let all = lines(n);
+    println!(rt; "root: {agreed} of {all} agree")
+}
+
+// Reads until there is no room left, the input ends or a read fails, and says how many bytes came.
+fn read_full<R: Read>(input: &mut R, room: &mut [u8]) -> usize
+    ensures { result ≤ length room.new }
+{
+    let mut done: usize = 0;
+    while done < room.len() {
+        let Ok(n) = input.read(&mut room[done..]) else {
+            break;
+        };
+        if n == 0 {
+            break;
+        }
+        done += n;
+    }
+    done
 }
 
 // How many lines there are; a last one that is cut counts.
