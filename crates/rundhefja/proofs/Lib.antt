@@ -1,2 +1,1 @@
-pub mod PassOn
 pub mod Bodies
