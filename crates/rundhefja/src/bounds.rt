@@ -18,43 +18,37 @@ use shapes::bounds::{Bounds, Corners, Overlap};
 use shapes::circle::Circle;
 use shapes::rectangle::Rectangle;
 
-#[unsafe(no_mangle)]
-pub extern "C" fn rundhefja_bounds_width(b: Bounds) -> f64
+pub fn rundhefja_bounds_width(b: Bounds) -> f64
     ensures { result ≡ width_of b }
 {
     b.width()
 }
 
-#[unsafe(no_mangle)]
-pub extern "C" fn rundhefja_bounds_height(b: Bounds) -> f64
+pub fn rundhefja_bounds_height(b: Bounds) -> f64
     ensures { result ≡ height_of b }
 {
     b.height()
 }
 
-#[unsafe(no_mangle)]
-pub extern "C" fn rundhefja_bounds_area(b: Bounds) -> f64
+pub fn rundhefja_bounds_area(b: Bounds) -> f64
     ensures { result ≡ area_of b }
 {
     b.area()
 }
 
-#[unsafe(no_mangle)]
-pub extern "C" fn rundhefja_bounds_to_points(b: Bounds) -> Corners
+pub fn rundhefja_bounds_to_points(b: Bounds) -> Corners
     ensures { result ≡ corners_of b }
 {
     b.to_points()
 }
 
-#[unsafe(no_mangle)]
-pub extern "C" fn rundhefja_bounds_union(a: Bounds, b: Bounds) -> Bounds
+pub fn rundhefja_bounds_union(a: Bounds, b: Bounds) -> Bounds
     ensures { result ≡ union_of a b }
 {
     a.union(b)
 }
 
-#[unsafe(no_mangle)]
-pub extern "C" fn rundhefja_bounds_intersection(a: Bounds, b: Bounds) -> Shared
+pub fn rundhefja_bounds_intersection(a: Bounds, b: Bounds) -> Shared
     ensures { result ≡ shared_of (overlap_of a b) }
 {
     let overlap = a.intersection(b);
@@ -70,23 +64,20 @@ pub extern "C" fn rundhefja_bounds_intersection(a: Bounds, b: Bounds) -> Shared
     }
 }
 
-#[unsafe(no_mangle)]
-pub extern "C" fn rundhefja_circle_bounds(c: Circle) -> Bounds
+pub fn rundhefja_circle_bounds(c: Circle) -> Bounds
     ensures { result ≡ circle_box c }
 {
     c.bounds()
 }
 
-#[unsafe(no_mangle)]
-pub extern "C" fn rundhefja_rectangle_bounds(r: Rectangle) -> Bounds
+pub fn rundhefja_rectangle_bounds(r: Rectangle) -> Bounds
     ensures { result ≡ rectangle_box r }
 {
     r.bounds()
 }
 
 // The radius is lifted.
-#[unsafe(no_mangle)]
-pub extern "C" fn rundhefja_circle_from_params(x: f64, y: f64, radius: f64, ink: u16) -> Circle
+pub fn rundhefja_circle_from_params(x: f64, y: f64, radius: f64, ink: u16) -> Circle
     ensures { result ≡ lifted_circle x y radius ink }
 {
     Circle::from_params(x, y, radius, ink)

@@ -14,8 +14,7 @@ use shapes::circle::Circle;
 use shapes::point::Point;
 
 // The field, and its body as a place in the file and a length: both 0 where the field is refused.
-#[unsafe(no_mangle)]
-pub extern "C" fn rundhefja_field(file: &[u8], at: usize) -> FieldRead
+pub fn rundhefja_field(file: &[u8], at: usize) -> FieldRead
     ensures answer { result ≡ field_read (read_field file.now at) (body_place file.now at) (length (field_body file.now at)) }
     ensures body { take result.body_length (drop result.body_start file.now) ≡ field_body file.now at }
 {
@@ -25,8 +24,7 @@ pub extern "C" fn rundhefja_field(file: &[u8], at: usize) -> FieldRead
 }
 
 // The card's file, put into a lent list.
-#[unsafe(no_mangle)]
-pub extern "C" fn rundhefja_write_card(
+pub fn rundhefja_write_card(
     circles: &[Circle],
     factor: f64,
     masks: &[u64],
@@ -41,8 +39,7 @@ pub extern "C" fn rundhefja_write_card(
 }
 
 // The text, put into a lent list: 4,096 bytes are enough for any.
-#[unsafe(no_mangle)]
-pub extern "C" fn rundhefja_card_text(input: &[u8], text: &mut [u8]) -> Written
+pub fn rundhefja_card_text(input: &[u8], text: &mut [u8]) -> Written
     ensures { saved result text.new ≡ write_text input.now text.old }
 {
     write_text(input, text)

@@ -20,8 +20,7 @@ use root::answers::Root;
 use shapes::circle::Circle;
 use shapes::point::Point;
 
-#[unsafe(no_mangle)]
-pub extern "C" fn rundhefja_root(x: f64) -> Length
+pub fn rundhefja_root(x: f64) -> Length
     ensures { result ≡ length_of (root_answer x) }
 {
     let answer = root::root(x);
@@ -34,43 +33,37 @@ pub extern "C" fn rundhefja_root(x: f64) -> Length
     }
 }
 
-#[unsafe(no_mangle)]
-pub extern "C" fn rundhefja_point_distance(p: Point, q: Point) -> Length
+pub fn rundhefja_point_distance(p: Point, q: Point) -> Length
     ensures { result ≡ length_of (distance_answer p q) }
 {
     measured(geometry::point::distance(p, q))
 }
 
-#[unsafe(no_mangle)]
-pub extern "C" fn rundhefja_distance(a: Circle, b: Circle) -> Length
+pub fn rundhefja_distance(a: Circle, b: Circle) -> Length
     ensures { result ≡ length_of (circle_distance_answer a b) }
 {
     measured(geometry::circle::distance(a, b))
 }
 
-#[unsafe(no_mangle)]
-pub extern "C" fn rundhefja_contains(a: Circle, b: Circle) -> Test
+pub fn rundhefja_contains(a: Circle, b: Circle) -> Test
     ensures { result ≡ test_of (contains_answer a b) }
 {
     decided(geometry::circle::contains(a, b))
 }
 
-#[unsafe(no_mangle)]
-pub extern "C" fn rundhefja_contains_point(c: Circle, p: Point) -> Test
+pub fn rundhefja_contains_point(c: Circle, p: Point) -> Test
     ensures { result ≡ test_of (contains_point_answer c p) }
 {
     decided(geometry::circle::contains_point(c, p))
 }
 
-#[unsafe(no_mangle)]
-pub extern "C" fn rundhefja_intersects(a: Circle, b: Circle) -> Test
+pub fn rundhefja_intersects(a: Circle, b: Circle) -> Test
     ensures { result ≡ test_of (intersects_answer a b) }
 {
     decided(geometry::circle::intersects(a, b))
 }
 
-#[unsafe(no_mangle)]
-pub extern "C" fn rundhefja_columns(k: usize, proportion: f64) -> Count
+pub fn rundhefja_columns(k: usize, proportion: f64) -> Count
     ensures { result ≡ count_of (columns_answer k proportion) }
 {
     let answer = packing::columns(k, proportion);

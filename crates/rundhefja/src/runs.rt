@@ -25,43 +25,33 @@ use shapes::point::Point;
 use shapes::rectangle::Rectangle;
 use touch::touch_points;
 
-#[unsafe(no_mangle)]
-pub extern "C" fn rundhefja_clusters(circles: &[Circle]) -> Clusters
+pub fn rundhefja_clusters(circles: &[Circle]) -> Clusters
     ensures { grouped result ≡ plain_grouping circles.now }
 {
     find_clusters(circles)
 }
 
-#[unsafe(no_mangle)]
-pub extern "C" fn rundhefja_area_clusters(
-    n: usize,
-    masks: &[u64],
-    areas: &[f64],
-    tolerance: f64,
-) -> Clusters
+pub fn rundhefja_area_clusters(n: usize, masks: &[u64], areas: &[f64], tolerance: f64) -> Clusters
     ensures answer { grouped result ≡ area_grouping n masks.now areas.now tolerance }
     ensures chains { result.refusal ≡ 0 → NumbersByChains n tolerance (regions masks.now areas.now) result.numbers }
 {
     find_clusters_from_exclusive_regions(n, masks, areas, tolerance)
 }
 
-#[unsafe(no_mangle)]
-pub extern "C" fn rundhefja_pack(rectangles: &[Rectangle], padding: f64, proportion: f64) -> Packed
+pub fn rundhefja_pack(rectangles: &[Rectangle], padding: f64, proportion: f64) -> Packed
     ensures { packed_boxes result ≡ skyline_pack rectangles.now padding proportion }
 {
     skyline_pack(rectangles, padding, proportion)
 }
 
-#[unsafe(no_mangle)]
-pub extern "C" fn rundhefja_container(circles: &mut [Circle], container: Rectangle) -> Placed
+pub fn rundhefja_container(circles: &mut [Circle], container: Rectangle) -> Placed
     ensures { (result ≡ placed_of (contained circles.old container))
         × (circles.new ≡ (contained circles.old container).circles) }
 {
     normalize_layout_with_container(circles, container)
 }
 
-#[unsafe(no_mangle)]
-pub extern "C" fn rundhefja_layout(
+pub fn rundhefja_layout(
     circles: &mut [Circle],
     factor: f64,
     masks: &[u64],
@@ -75,8 +65,7 @@ pub extern "C" fn rundhefja_layout(
     normalize_layout_with_clusters(circles, factor, masks, areas, proportion)
 }
 
-#[unsafe(no_mangle)]
-pub extern "C" fn rundhefja_card_stock(
+pub fn rundhefja_card_stock(
     circles: &[Circle],
     factor: f64,
     masks: &[u64],
@@ -89,12 +78,7 @@ pub extern "C" fn rundhefja_card_stock(
     card_stock(circles, factor, masks, areas, proportion, cents)
 }
 
-#[unsafe(no_mangle)]
-pub extern "C" fn rundhefja_touch_points(
-    circles: &[Circle],
-    points: &[Point],
-    answers: &mut [u64],
-) -> u8
+pub fn rundhefja_touch_points(circles: &[Circle], points: &[Point], answers: &mut [u64]) -> u8
     ensures { touch_of result answers.new ≡ touched circles.now points.now answers.old }
 {
     touch_points(circles, points, answers)

@@ -1,0 +1,7 @@
+// The static library that C, C++ and Rust programs link: each export calls the function of its name in `rundhefja`, and promises what that promises.
+#![tactic(auto)]
+
+mod bounds;
+mod files;
+mod measures;
+mod runs;
