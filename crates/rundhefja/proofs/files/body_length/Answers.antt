@@ -1,6 +1,5 @@
 -- `body_length` meets its contract.
 use mathlib.Core.Path.{ap}
-use borrow.Author.Rules.{rules}
 use lib.ListN.{length}
 use Rattle.rundhefja.proofs.files.body_length.Goals as goal
 

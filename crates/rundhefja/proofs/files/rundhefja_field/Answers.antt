@@ -1,7 +1,6 @@
 -- `rundhefja_field` meets its contract: the length of the body tells where it lies.
 use mathlib.Core.Path.{◌≡◌, sym, ◌∙◌}
 use native.Mathlib.Omega.{arith}
-use borrow.Author.Rules.{rules}
 use Rattle.card_file.specs.Parts.{body_place}
 use Rattle.rundhefja.proofs.Bodies.{lies, read_with_body}
 use Rattle.rundhefja.proofs.files.rundhefja_field.Goals as goal

@@ -1,6 +1,5 @@
 -- `rundhefja_contains_point` meets its contract: the answer in two fields.
 use mathlib.Core.Path.{ap, ◌∙◌}
-use borrow.Author.Rules.{rules}
 use Rattle.rundhefja.specs.Answers.{test_of}
 use Rattle.rundhefja.proofs.measures.rundhefja_contains_point.Goals as goal
 

@@ -1,6 +1,5 @@
 -- `rundhefja_distance` meets its contract: the answer in two fields.
 use mathlib.Core.Path.{ap, ◌∙◌}
-use borrow.Author.Rules.{rules}
 use Rattle.rundhefja.specs.Answers.{length_of}
 use Rattle.rundhefja.proofs.measures.rundhefja_distance.Goals as goal
 

@@ -1,6 +1,5 @@
 -- `rundhefja_point_distance` meets its contract: the answer in two fields.
 use mathlib.Core.Path.{ap, ◌∙◌}
-use borrow.Author.Rules.{rules}
 use Rattle.rundhefja.specs.Answers.{length_of}
 use Rattle.rundhefja.proofs.measures.rundhefja_point_distance.Goals as goal
 
