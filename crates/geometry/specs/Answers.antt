@@ -2,13 +2,13 @@
 use Rattle.std.specs.Prelude.{Bool, Float}
 use Rattle.scope.specs.Refusals.{Answer, refused, given}
 use Rattle.geometry.specs.declared.point.Measured.{Measured}
-use Rattle.geometry.specs.declared.point.Measured.TheVariants as length
+use Rattle.geometry.specs.declared.point.Measured.TheVariants as number
 use Rattle.geometry.specs.declared.circle.Decided.{Decided}
 use Rattle.geometry.specs.declared.circle.Decided.TheVariants as test
 
 abbrev pub measured : Measured → Answer Float
-measured (length.Of x) = given x
-measured (length.Refused k) = refused k
+measured (number.Of x) = given x
+measured (number.Refused k) = refused k
 
 abbrev pub decided : Decided → Answer Bool
 decided (test.Is b) = given b
