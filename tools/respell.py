@@ -115,6 +115,7 @@ def main(argv):
         for name, to in sorted(table.items()):
             print(f"{name}\t{to}")
         return 0
+    back_of = {to: {n: to for n in froms if "-" in n} for to, froms in back.items()}
     word = re.compile(NAME)
 
     def turn_code(code, after_dot):
@@ -129,8 +130,6 @@ def main(argv):
     def in_prose(text):
         text = re.sub(r"`([^`\n]+)`", lambda m: "`" + word.sub(lambda w: table.get(w[0], w[0]), m[1]) + "`", text)
         return re.sub(r"(?<![\w`-])[a-z]+[A-Z]\w*(?![\w-])", lambda m: table.get(m[0], m[0]), text)
-
-    fields = {n for n in own if all(True for _ in own[n])}
 
     def turn_line(line, antt_file, aliases):
         mark = "--" if antt_file else "//"
@@ -165,6 +164,25 @@ def main(argv):
                     lines[i] = turn_line(line, "file: src" not in "\n".join(lines), [])
             with open(n, "w", encoding="utf-8") as f:
                 f.write("\n".join(lines))
+    # ---- fields of records, behind a dot
+    dashed = {}
+    for n in antt:
+        inside = False
+        for line in read(n).split("\n"):
+            if re.match(r"\s*(pub |abbrev )*record \S", line):
+                inside = True
+            elif inside and re.match(r"\S", line):
+                inside = False
+            elif inside:
+                m = re.match(r"\s+(?:pub )?([^\s:]+) :", line)
+                dashed |= {name: to for name, to in back_of.get(m[1], {}).items()} if m else {}
+    for n in antt + rust:
+        if not n.endswith("/Proof.antt"):
+            text = read(n)
+            for name, to in dashed.items():
+                text = re.sub(r"(?<=[\w)\]'₀-₉])\." + re.escape(name) + r"(?![^\s(){}.;,@\"«»])", "." + to, text)
+            with open(n, "w", encoding="utf-8") as f:
+                f.write(text)
     with open("tools/spelling.tsv", "w", encoding="utf-8") as f:
         f.writelines(f"{name}\t{to}\n" for name, to in sorted(table.items()))
     print(f"{len(table)} names")
