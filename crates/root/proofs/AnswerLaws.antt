@@ -7,7 +7,7 @@ use native.Mathlib.Nat.{eq-or-lt_of_le, mul-pos, le_of_suc-le-suc}
 use native.Mathlib.Omega.{arith}
 use lib.Dec.{T, leb, eqb, le→leb}
 use lib.Pow.{pow_pos}
-use lib.Ieee.{Float, nan, inf, fin, binary64, up, down, of_fields, of_bits, is_nan, lt, ne, fits, to_bits}
+use lib.Ieee.{Float, nan, inf, fin, binary64, up, down, of_fields, of_bits, is_nan, lt, eq, ne, fits, to_bits}
 use lib.Ieee.Fits.{down_pos}
 use lib.Ieee.Bits.{is_true, of_bits-to_bits, to_bits-lt}
 use lib.Ieee.Exact.{HasValue}
@@ -30,6 +30,14 @@ unfolding is_nan ne
 number_of_test nan h = absurd (subst T h tt)
 number_of_test (inf s) h = tt
 number_of_test (fin s m e) h = tt
+
+pub when_unequal : (x : Float) → eq x x ≡ false → refused 12 ≡ root_answer x
+unfolding ne
+when_unequal x h = when_nan x (ap not h)
+
+pub number_of_equal : (x : Float) → eq x x ≡ true → T (not (is_nan x))
+unfolding ne
+number_of_equal x h = number_of_test x (ap not h)
 
 -- ---- a value above 0 or below
 no_zero_value : (u c a k : ℕ) → 0 < k → 0 < a → 0 * u * c ≡ a * k → ⊥
