@@ -134,9 +134,6 @@ module _ (c : Cap) {A B : Type 0} {d : A} (k : Field d B) (cs : List A) (zs : Li
   pub run_next : (i : ℕ) (d' : A) {m : List B} → i < end → m ≡ after k cs zs i → set m i (k.of (get_or cs i d')) ≡ after k cs zs (i + 1)
   run_next i d' h q = let room = taken_few c (length cs) in rw (q, get_or_default cs i d' d (omega arith)) (after_next i h)
 
-  pub run_long : (i : ℕ) {m : List B} → i ≤ end → m ≡ after k cs zs i → length m ≡ c.width
-  run_long i h q = rw q (after_long i h)
-
   pub run_all : (i : ℕ) {m : List B} → i ≤ end → end ≤ i → m ≡ after k cs zs i → m ≡ unless (c.many (length cs)) (k.column cs) zs
   run_all i low high q = let all : i ≡ end = omega arith in q ∙ rw all after_all
 

@@ -46,7 +46,7 @@ module _ {ℓ} {A : Type ℓ} where
   tab_last zero f = refl
   tab_last (suc n) f = ap (λ l. f 0 ∷ l) (tab_last n (λ i. f (suc i)))
 
--- ---- gather and inTurn: index n is taken last
+-- ---- gather and in_turn: index n is taken last
 
 module _ {ℓ κ} {A : Type ℓ} {B : Type κ} (op : A → B → A) (z : A) where
   pub gather-takes : (p : ℕ → Bool) (n : ℕ) (f : ℕ → B) → T (p n) → gather op z p (suc n) f ≡ op (gather op z p n f) (f n)

@@ -3,7 +3,7 @@ use Rattle.std.specs.Prelude.{◌≡◌, ℕ, ◌/◌, ◌%◌, ◌<◌, ◌≤�
 use Rattle.scope.specs.Packing.{columns}
 use Rattle.intake.specs.Limits.{max_circles}
 
--- the first n entries are f's values; z is what `get_or` gives past the end
+-- the first n entries are f's values; z is what is read past the end
 pub record At {A : Type 0} (n : ℕ) (l : List A) (z : A) (f : ℕ → A) : Type 0 where
   pub fits : n ≤ length l
   pub is : (i : ℕ) → i < n → slice_index_or l i z ≡ f i

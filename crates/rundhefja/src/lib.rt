@@ -1,5 +1,4 @@
-// What C, C++ and Rust programs link: the calls of document 01, on records.
-// A call does nothing but call, and its contract is that of what it calls. A run of records or numbers passes as a pointer and a length.
+// The calls of document 01 on records, as C, C++ and Rust programs have them: `rundhefja_c` exports each. A call does nothing but call, and its contract is that of what it calls.
 #![tactic(auto)]
 
 pub mod answers;
