@@ -119,3 +119,6 @@ module _ (x : Float) (f : fits binary64 x ≡ true) where
   pub when_above : (r : Float) → 0 < to_bits binary64 x → to_bits binary64 x < infinity → r ≡ root binary64 (of_bits binary64 (to_bits binary64 x))
       → given r ≡ root_answer x
   when_above r p l e = ap given e ∙ sym (pattern_above (to_bits binary64 x) p l) ∙ ap root_answer back
+
+-- what the answer needs of its tests, whichever way they are written
+pub ruleset root_tests = (when_nan, number_of_test, when_top, when_unequal, number_of_equal)

@@ -19,7 +19,7 @@ use answers::Root;
 use pattern::{INFINITY, SIGN};
 
 // The f64 nearest the exact root; -0 gives -0, and +infinity itself. NaN and a number below 0 are refused, by 12.
-#[tactic(auto, using(crate::proofs::AnswerLaws::when_nan, crate::proofs::AnswerLaws::number_of_test, crate::proofs::AnswerLaws::when_top, crate::proofs::AnswerLaws::when_unequal, crate::proofs::AnswerLaws::number_of_equal))]
+#[tactic(auto, using(crate::proofs::AnswerLaws::root_tests))]
 pub fn root(x: f64) -> Root
     ensures { rooted result ≡ root_answer x }
 {

@@ -1,4 +1,5 @@
-// The calls of document 01 on records, as C, C++ and Rust programs have them: `rundhefja_c` exports each. A call does nothing but call, and its contract is that of what it calls.
+// The calls of document 01 on records, as C, C++ and Rust programs have them: `rundhefja_c` exports each.
+// A call does nothing but call, and its contract is that of what it calls.
 #![tactic(auto)]
 
 pub mod answers;
