@@ -2,7 +2,6 @@
 #![tactic(auto)]
 
 ghost use Rattle.std.specs.Prelude.{◌≡◌};
-ghost use Rattle.std.specs.Float.{nan};
 ghost use Rattle.scope.specs.CardFile.{float_of, pattern_of};
 ghost use Rattle.scope.specs.Print.{bits_of};
 
@@ -15,37 +14,27 @@ const SIGN: u64 = 9223372036854775808;
 pub fn float_of(pattern: u64) -> f64
     ensures { result ≡ float_of pattern }
 {
-    if pattern % SIGN / FIELD == 2047 {
-        if pattern % FIELD != 0 {
-            return not_a_number();
-        }
-        return f64::from_bits(pattern);
+    if pattern % SIGN / FIELD == 2047 && pattern % FIELD != 0 {
+        f64::NAN
+    } else {
+        f64::from_bits(pattern)
     }
-    f64::from_bits(pattern)
-}
-
-fn not_a_number() -> f64
-    ensures { result ≡ nan }
-{
-    0.0 / 0.0
 }
 
 // The pattern of a float: that of a NaN has only the highest digit set.
 pub fn pattern_of(x: f64) -> u64
     ensures { result ≡ pattern_of x }
 {
-    if x != x {
-        return 9221120237041090560;
+    if x.is_nan() {
+        9221120237041090560
+    } else {
+        x.to_bits()
     }
-    f64::to_bits(x)
 }
 
 // The pattern that is printed: either zero as 0.
 pub fn bits_of(x: f64) -> u64
     ensures { result ≡ bits_of x }
 {
-    if x == 0.0 {
-        return 0;
-    }
-    pattern_of(x)
+    if x == 0.0 { 0 } else { pattern_of(x) }
 }

@@ -1,12 +1,6 @@
 -- What came on standard input lies in the room that was lent for it.
 use Rattle.std.specs.Prelude.{◌≡◌, ℕ, ◌≤◌, List, length, take}
-use Rattle.card.specs.declared.Input.{Input}
-use Rattle.card.specs.declared.Input.TheVariants.{Bytes, Failed}
 
 -- `&xs[..n]` is in bounds and has n bytes. The second part follows from the first, and spares a caller's `&buf[..n]` a proof file.
 abbrev pub IsPrefixLen : ℕ → List ℕ → Type 0
 IsPrefixLen n xs = (n ≤ length xs) × (n ≡ length (take n xs))
-
-abbrev pub Held : Input → List ℕ → Type 0
-Held (Bytes n) room = IsPrefixLen n room
-Held Failed room = Unit

@@ -3,49 +3,38 @@
 // read nothing stands on standard output, and after a failed write what stands there may be cut.
 #![tactic(auto)]
 
-ghost use Rattle.card.specs.Inputs.{Held};
+ghost use Rattle.std.specs.Prelude.{IfOk};
+ghost use Rattle.card.specs.Inputs.{IsPrefixLen};
 
-use std::io::{Read, Write};
-
-// What came on standard input: so many bytes up to its end, or as many as there is room for; or a read failed.
-#[derive(Clone, Copy)]
-pub enum Input {
-    Bytes(usize),
-    Failed,
-}
+use std::io::{self, Read, Write};
 
 fn main(rt: HostRuntime) {
     // One byte more than is taken, so that a longer input shows.
     let mut input = [0u8; card_output::MAX_INPUT + 1];
-    let came = read_input(&mut rt.stdin(), &mut input);
-    match came {
-        Input::Bytes(n) => answer(&rt, &input[..n]),
-        Input::Failed => complain(&rt, b"card: the input could not be read\n"),
+    match read_input(&mut rt.stdin(), &mut input) {
+        Ok(n) => answer(&rt, &input[..n]),
+        Err(_) => complain(&rt, b"card: the input could not be read\n"),
     }
 }
 
-// Each turn reads a byte at least, or is the last.
-fn read_input<R: Read>(from: &mut R, room: &mut [u8]) -> Input
-    ensures { Held result room.new }
+// How many bytes came up to the end of the input, or as many as there is room for. Each turn reads a byte at least, or is the last.
+fn read_input<R: Read>(from: &mut R, room: &mut [u8]) -> io::Result<usize>
+    ensures { IfOk result (λ n. IsPrefixLen n room.new) }
 {
-    let mut n: usize = 0;
+    let mut n = 0;
     while n < room.len() {
-        let Ok(more) = from.read(&mut room[n..]) else {
-            return Input::Failed;
-        };
+        let more = from.read(&mut room[n..])?;
         if more == 0 {
-            return Input::Bytes(n);
+            break;
         }
         n += more;
     }
-    Input::Bytes(n)
+    Ok(n)
 }
 
 fn answer(rt: &HostRuntime, input: &[u8]) {
     let text = card_output::card_text(input);
-    let bytes = text.bytes;
-    let length = text.length;
-    if !write_all(&mut rt.stdout(), &bytes[..length]) {
+    if !write_all(&mut rt.stdout(), text.as_bytes()) {
         complain(rt, b"card: the answer could not be written\n");
     }
 }
@@ -55,16 +44,14 @@ fn complain(rt: &HostRuntime, line: &[u8]) {
 }
 
 // Writes all the bytes, or stops at the first write that takes none or fails, and says whether all were written.
+// The library's `write_all` tries an interrupted write again.
 fn write_all<W: Write>(to: &mut W, bytes: &[u8]) -> bool {
-    let mut done: usize = 0;
-    while done < bytes.len() {
-        let Ok(n) = to.write(&bytes[done..]) else {
-            return false;
-        };
-        if n == 0 {
-            return false;
+    let mut rest = bytes;
+    while !rest.is_empty() {
+        match to.write(rest) {
+            Ok(0) | Err(_) => return false,
+            Ok(n) => rest = &rest[n..],
         }
-        done += n;
     }
     true
 }

@@ -2,16 +2,16 @@
 use Prim.Native.Nat.{ℕ, ◌+◌, ◌-◌, ◌<◌}
 use native.Mathlib.Omega.{arith}
 use native.Mathlib.Numerals.{add-one}
-use mathlib.Core.Path.{◌≡◌, refl, sym, ap, ◌∙◌}
+use mathlib.Core.Path.{◌≡◌, sym, ap, ◌∙◌}
 use mathlib.Core.List.{List, [], ◌∷◌, ◌++◌}
 use lib.ListN.{length, take, drop, set, replicate, length-set, length-replicate}
 use lib.Seq.{drop-drop, drop-set-lt, take-suc-set, length-take-le}
-use Rattle.scope.specs.Numbers.{nought}
 use Rattle.laws.proofs.Runs.{drop-replicate}
 use Rattle.intake.specs.Blanks.{blank}
 use Rattle.intake.specs.Limits.{max_circles, max_regions}
-use Rattle.card_file.specs.Unused.{Uses, RestIsBlank}
-use Rattle.card_file.specs.Answers.{refused_card}
+use Rattle.scope.specs.Numbers.{nought}
+use Rattle.card_file.specs.declared.card.Card.{Card}
+use Rattle.card_file.specs.Unused.{Uses, RestIsBlank, IsBlank}
 
 module _ {A : Type 0} where
   pub none_used : (room : ℕ) (z : A) → Uses room z 0 (replicate room z)
@@ -36,11 +36,11 @@ module _ {A : Type 0} where
   pub used_length : {room : ℕ} {z : A} {n : ℕ} {l : List A} → Uses room z n l → length (take n l) ≡ n
   used_length {room} {z} {n} {l} u = length-take-le n l (omega arith)
 
-pub refused_is_blank : (k : ℕ) → RestIsBlank (refused_card k)
-refused_is_blank k = record {
-  circles = none_used max_circles blank;
-  masks = none_used max_regions 0;
-  patterns = none_used max_regions 0;
-  areas = none_used max_regions nought;
-  nothing = λ h. refl;
+pub refused_is_blank : (r : Card) → IsBlank r → RestIsBlank r
+refused_is_blank r b = record {
+  circles = rw (b.no_circles, b.circles) (none_used max_circles blank);
+  masks = rw (b.no_regions, b.masks) (none_used max_regions 0);
+  patterns = rw (b.no_regions, b.patterns) (none_used max_regions 0);
+  areas = rw (b.no_regions, b.areas) (none_used max_regions nought);
+  nothing = λ e h. b;
 }

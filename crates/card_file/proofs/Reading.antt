@@ -8,15 +8,15 @@ use mathlib.Core.List.{List}
 use lib.ListN.{length, drop, set, replicate, length-drop, drop_of_length-le}
 use lib.Seq.{drop-drop}
 use lib.Ieee.{Float}
-use borrow.Author.Tests.{eq-eqb, ne_eqb}
+use borrow.Author.Tests.{eq-eqb}
 use Rattle.shapes.specs.declared.circle.Circle.{Circle}
 use Rattle.scope.specs.Numbers.{nought}
 use Rattle.scope.specs.Limits.{circle_cap, region_cap}
 use Rattle.scope.specs.Refusals.{given}
-use Rattle.scope.specs.CardFile.{Card, tag, body, length_of_body, head_length, body_cut, word, float_of, circle_from, started, with_field, first_refusal, next_refusal, or_refused, fields}
+use Rattle.scope.specs.CardFile.{Card, tag, body, length_of_body, head_length, body_cut, word, float_of, circle_from, started, with_field, first_refusal, next_refusal, or_refused, fields, read_file}
 use Rattle.laws.proofs.Cases.{is_false}
 use Rattle.laws.proofs.Accepted.{not_too_many_iff, not_too_many_regions_iff}
-use Rattle.laws.proofs.CardFiles.{next_field, no_field, goes_on}
+use Rattle.laws.proofs.CardFiles.{next_field, no_field, goes_on, after_factor}
 use Rattle.laws.proofs.Fields.{first_accepted_iff, next_accepted_iff}
 use Rattle.laws.proofs.NextFields.{next_is}
 use Rattle.intake.specs.Blanks.{blank}
@@ -40,8 +40,8 @@ module _ (card : Card) (rest : List ℕ) (accepted : next_refusal card rest ≡ 
   unfolding circle_cap
   room_for_circle t = (not_too_many_iff (suc (length card.circles))).0 ((next_accepted_iff card rest 2 t).0 accepted).2
 
-  pub is_region : (tag rest ≡ 2 → ⊥) → tag rest ≡ 3
-  is_region t = ⊎_elim (λ m. absurd (t m.1.tagged)) (λ m. m.0.tagged) (next_is card rest accepted)
+  pub no_factor : tag rest ≡ 1 → ⊥
+  no_factor t = ⊎_elim (λ m. omega (arith, t, m.1.tagged)) (λ m. omega (arith, t, m.0.tagged)) (next_is card rest accepted)
 
   pub room_for_region : tag rest ≡ 3 → length card.masks < max_regions
   unfolding region_cap
@@ -55,11 +55,18 @@ module _ (factor : Float) (n : ℕ) (circles : List Circle) (m : ℕ) (masks pat
   unfolding with_field
   circle_added t h u = rw (eq-eqb (tag rest) 2 t, used_next (circle_from (body rest)) h u)
 
-  pub region_added : (tag rest ≡ 2 → ⊥) → m < max_regions → Uses max_regions 0 m masks → Uses max_regions 0 m patterns → Uses max_regions nought m areas
+  pub region_added : tag rest ≡ 3 → m < max_regions
+      → Uses max_regions 0 m masks → Uses max_regions 0 m patterns → Uses max_regions nought m areas
       → with_field (listed factor n circles m masks patterns areas) rest
       ≡ listed factor n circles (m + 1) (set masks m (word (body rest) 0)) (set patterns m (word (body rest) 8)) (set areas m (float_of (word (body rest) 8)))
   unfolding with_field
-  region_added t h um up ua = rw (ne_eqb (tag rest) 2 t, used_next (word (body rest) 0) h um, used_next (word (body rest) 8) h up, used_next (float_of (word (body rest) 8)) h ua)
+  region_added t h um up ua =
+      rw (
+        t,
+        used_next (word (body rest) 0) h um,
+        used_next (word (body rest) 8) h up,
+        used_next (float_of (word (body rest) 8)) h ua,
+      )
 
 -- ---- what has been read so far
 
@@ -95,8 +102,8 @@ module _ {file : List ℕ} {start : ℕ} {factor : Float} {n : ℕ} {circles : L
     pub circle-fits : tag (drop at file) ≡ 2 → n < max_circles
     circle-fits t = omega (arith, room_for_circle _ (drop at file) accepted t, used_length before.circles_used)
 
-    pub region-fits : (tag (drop at file) ≡ 2 → ⊥) → m < max_regions
-    region-fits t = omega (arith, room_for_region _ (drop at file) accepted (is_region _ (drop at file) accepted t), used_length before.masks_used)
+    pub region-fits : tag (drop at file) ≡ 3 → m < max_regions
+    region-fits t = omega (arith, room_for_region _ (drop at file) accepted t, used_length before.masks_used)
 
   module _ (inside : at < length file) where
     pub turn : fields 0 (started factor) (drop start file)
@@ -117,7 +124,7 @@ module _ {file : List ℕ} {start : ℕ} {factor : Float} {n : ℕ} {circles : L
             same = turn ∙ goes_on _ _ accepted ∙ rw (circle_added factor n circles m masks patterns areas (drop at file) t room before.circles_used);
           }
 
-      pub with_region_lem : (tag (drop at file) ≡ 2 → ⊥)
+      pub with_region_lem : tag (drop at file) ≡ 3
           → SoFar file start factor n circles (m + 1) (set masks m (word (body (drop at file)) 0)) (set patterns m (word (body (drop at file)) 8))
           (set areas m (float_of (word (body (drop at file)) 8))) (at + (head_length + length_of_body (tag (drop at file))))
       with_region_lem t =
@@ -131,3 +138,8 @@ module _ {file : List ℕ} {start : ℕ} {factor : Float} {n : ℕ} {circles : L
                 turn ∙ goes_on _ _ accepted
                 ∙ rw (region_added factor n circles m masks patterns areas (drop at file) t room before.masks_used before.patterns_used before.areas_used);
           }
+
+-- ---- from the factor on
+
+pub factor_read : (file : List ℕ) (x : Float) → first_refusal file ≡ 0 → x ≡ float_of (word (body file) 0) → read_file file ≡ fields 0 (started x) (drop 11 file)
+factor_read file x e is = after_factor file e ∙ rw is

@@ -1,3 +1,4 @@
 pub mod Answers
 pub mod Unused
 pub mod Parts
+pub mod Tags

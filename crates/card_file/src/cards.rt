@@ -1,50 +1,43 @@
 // The card that a file holds: factor, circles, regions. The file is read front to back, and only then are the values checked.
-ghost use Rattle.std.specs.Prelude.{◌≡◌, ◌&&◌, suc, ◌≤◌, eqb, length, take, drop};
-ghost use Rattle.scope.specs.Refusals.{too_many, too_many_regions, card_refusal};
+ghost use Rattle.std.specs.Prelude.{◌≡◌, ◌&&◌, suc, ◌≤◌, eqb, length, take, drop, Some, None};
+ghost use Rattle.std.specs.Result.{IfOk};
+ghost use Rattle.scope.specs.Refusals.{too_many, too_many_regions};
 ghost use Rattle.scope.specs.CardFile.{started, first_refusal, misplaced, next_refusal, fields, read_file, read_card};
 ghost use Rattle.scope.specs.Saving.{file_of};
+ghost use Rattle.refusals.specs.Numbers.{number_if};
 ghost use Rattle.intake.specs.Limits.{max_circles, max_regions};
-ghost use Rattle.card_file.specs.Answers.{ReadCard, listed, card_answer, refused_card};
-ghost use Rattle.card_file.specs.Unused.{RestIsBlank};
+ghost use Rattle.card_file.specs.Answers.{ReadCard, shown, card_answer};
+ghost use Rattle.card_file.specs.Tags.{number, HasTag};
+ghost use Rattle.card_file.specs.Unused.{RestIsBlank, IsBlank};
 
-use crate::fields::{
-    HEAD_LENGTH, body_at, body_length, circle_of, is_head_cut, length_refusal, tag_at,
-};
+use crate::card::Card;
+use crate::fields::{HEAD_LENGTH, body_at, check_length, circle_of, is_head_cut, tag_at};
+use crate::tags::Tag;
 use crate::words::word_at;
 use bits::float_of;
 use intake::blanks::blank;
-use intake::causes::{number_of, of_circles, of_factor, of_regions};
+use intake::checks::check_card;
 use intake::limits::{MAX_CIRCLES, MAX_REGIONS, too_many, too_many_regions};
-use intake::runs::split_array;
+use refusals::Refusal;
 use shapes::circle::Circle;
 
-// A refusal's number or 0, the factor, n circles and m regions. Each area stands beside its pattern, and what is not used is 0.
-#[derive(Clone, Copy)]
-pub struct Card {
-    pub refusal: u8,
-    pub factor: f64,
-    pub n: usize,
-    pub circles: [Circle; MAX_CIRCLES],
-    pub m: usize,
-    pub masks: [u64; MAX_REGIONS],
-    pub patterns: [u64; MAX_REGIONS],
-    pub areas: [f64; MAX_REGIONS],
-}
-
 // The card of a whole file. Refused, front to back: a field cut short (11), a tag unknown or out of place (9), the 65th circle (1) or
-// the 2,049th region (2), a wrong length (10); then a centre (3), a radius (4), masks that do not rise (5), the factor (6), two circles of one ink (14).
+// the 2,049th region (2), a wrong length (10); then a centre (3), a radius (4), masks that do not rise (5), the factor (6), two circles of
+// one ink (14).
 // The file of the card is the very file that was read.
 pub fn read_card(file: &[u8]) -> Card
     ensures answer { card_answer result ≡ read_card file.now }
-    ensures again { result.refusal ≡ 0 → file_of (listed result.factor result.n result.circles result.m result.masks result.patterns result.areas) ≡ file.now }
+    ensures again { result.refusal ≡ None → file_of (shown result) ≡ file.now }
     ensures rest { RestIsBlank result }
 {
     let card = read_file(file);
-    if card.refusal != 0 {
+    if card.refusal.is_some() {
         return card;
     }
-    let refusal = value_refusal(card);
-    if refusal != 0 {
+    // Copies: where nothing points into the card, it is not moved about.
+    let circles = card.circles;
+    let masks = card.masks;
+    if let Err(refusal) = check_card(&circles[..card.n], card.factor, &masks[..card.m], card.m) {
         return refused(refusal);
     }
     card
@@ -55,11 +48,10 @@ fn read_file(file: &[u8]) -> Card
     ensures answer { card_answer result ≡ read_file file.now }
     ensures rest { RestIsBlank result }
 {
-    let refusal = first_refusal(file);
-    if refusal != 0 {
+    if let Err(refusal) = check_first(file) {
         return refused(refusal);
     }
-    let factor = float_of(word_at(body_at(file, 0), 0));
+    let factor = float_of(word_at(body_at(file, 0, Tag::Factor), 0));
     later_fields(file, HEAD_LENGTH + 8, factor)
 }
 
@@ -68,34 +60,37 @@ fn later_fields(file: &[u8], start: usize, factor: f64) -> Card
     ensures answer { card_answer result ≡ fields 0 (started factor) (drop start file.now) }
     ensures rest { RestIsBlank result }
 {
-    let mut n: usize = 0;
+    let mut n = 0;
     let mut circles = [blank(); MAX_CIRCLES];
-    let mut m: usize = 0;
+    let mut m = 0;
     let mut masks = [0u64; MAX_REGIONS];
     let mut patterns = [0u64; MAX_REGIONS];
     let mut areas = [0.0f64; MAX_REGIONS];
     let mut at = start;
     while at < file.len() {
-        let refusal = next_refusal(file, at, n, m);
-        if refusal != 0 {
-            return refused(refusal);
+        let tag = match check_next(file, at, n, m) {
+            Ok(tag) => tag,
+            Err(refusal) => return refused(refusal),
+        };
+        let body = body_at(file, at, tag);
+        match tag {
+            Tag::Factor => unreachable!(),
+            Tag::Circle => {
+                circles[n] = circle_of(body);
+                n += 1;
+            }
+            Tag::Region => {
+                let pattern = word_at(body, 8);
+                masks[m] = word_at(body, 0);
+                patterns[m] = pattern;
+                areas[m] = float_of(pattern);
+                m += 1;
+            }
         }
-        let tag = tag_at(file, at);
-        let body = body_at(file, at);
-        if tag == 2 {
-            circles[n] = circle_of(body);
-            n += 1;
-        } else {
-            let pattern = word_at(body, 8);
-            masks[m] = word_at(body, 0);
-            patterns[m] = pattern;
-            areas[m] = float_of(pattern);
-            m += 1;
-        }
-        at += HEAD_LENGTH + body_length(tag) as usize;
+        at += HEAD_LENGTH + tag.body_length() as usize;
     }
     Card {
-        refusal: 0,
+        refusal: None,
         factor,
         n,
         circles,
@@ -106,11 +101,12 @@ fn later_fields(file: &[u8], start: usize, factor: f64) -> Card
     }
 }
 
-fn refused(number: u8) -> Card
-    ensures { result ≡ refused_card number }
+fn refused(refusal: Refusal) -> Card
+    ensures refusal { result.refusal ≡ Some refusal }
+    ensures blank { IsBlank result }
 {
     Card {
-        refusal: number,
+        refusal: Some(refusal),
         factor: 0.0,
         n: 0,
         circles: [blank(); MAX_CIRCLES],
@@ -123,91 +119,72 @@ fn refused(number: u8) -> Card
 
 // ---- the checks
 
-// A file with nothing in it lacks the factor's tag (9).
-fn first_refusal(file: &[u8]) -> u8
-    ensures { result ≡ first_refusal file.now }
+// A file with nothing in it lacks the factor's tag.
+fn check_first(file: &[u8]) -> Result<(), Refusal>
+    ensures { number_if result ≡ first_refusal file.now }
 {
-    if file.len() == 0 {
-        return 9;
+    if file.is_empty() {
+        return Err(Refusal::BadTag);
     }
     if is_head_cut(file, 0) {
-        return 11;
+        return Err(Refusal::CutShort);
     }
-    if tag_at(file, 0) != 1 {
-        return 9;
+    let Some(tag) = tag_at(file, 0) else {
+        return Err(Refusal::BadTag);
+    };
+    if tag != Tag::Factor {
+        return Err(Refusal::BadTag);
     }
-    length_refusal(file, 0)
+    check_length(file, 0, tag)
 }
 
-// Of the field at a place, after n circles and m regions.
-fn next_refusal(file: &[u8], at: usize, n: usize, m: usize) -> u8
+// Of the field at a place, after n circles and m regions. What passes has its tag given.
+fn check_next(file: &[u8], at: usize, n: usize, m: usize) -> Result<Tag, Refusal>
     requires { (n ≤ max_circles) × (m ≤ max_regions) }
-    ensures { (card : ReadCard) → length card.circles ≡ n → length card.masks ≡ m → result ≡ next_refusal card (drop at file.now) }
+    ensures number { (card : ReadCard) → length card.circles ≡ n → length card.masks ≡ m
+        → number_if result ≡ next_refusal card (drop at file.now) }
+    ensures tag { IfOk result (HasTag (drop at file.now)) }
 {
     if is_head_cut(file, at) {
-        return 11;
+        return Err(Refusal::CutShort);
     }
-    let tag = tag_at(file, at);
+    let Some(tag) = tag_at(file, at) else {
+        return Err(Refusal::BadTag);
+    };
     if is_misplaced(tag, m) {
-        return 9;
+        return Err(Refusal::BadTag);
     }
     if is_circle_too_many(tag, n) {
-        return 1;
+        return Err(Refusal::TooManyCircles);
     }
     if is_region_too_many(tag, m) {
-        return 2;
+        return Err(Refusal::TooManyRegions);
     }
-    length_refusal(file, at)
+    check_length(file, at, tag)?;
+    Ok(tag)
 }
 
 // Only circles and regions follow, and no circle follows a region.
-fn is_misplaced(tag: u64, m: usize) -> bool
-    ensures { (card : ReadCard) → length card.masks ≡ m → result ≡ misplaced card tag }
+fn is_misplaced(tag: Tag, m: usize) -> bool
+    ensures { (card : ReadCard) → length card.masks ≡ m → result ≡ misplaced card (number tag) }
 {
-    if tag == 2 {
-        return m != 0;
+    match tag {
+        Tag::Factor => true,
+        Tag::Circle => m != 0,
+        Tag::Region => false,
     }
-    tag != 3
 }
 
-fn is_circle_too_many(tag: u64, n: usize) -> bool
+fn is_circle_too_many(tag: Tag, n: usize) -> bool
     requires { n ≤ max_circles }
-    ensures { result ≡ eqb tag 2 && too_many (suc n) }
+    ensures { result ≡ eqb (number tag) 2 && too_many (suc n) }
 {
-    if tag == 2 {
-        return too_many(n + 1);
-    }
-    false
+    tag == Tag::Circle && too_many(n + 1)
 }
 
-fn is_region_too_many(tag: u64, m: usize) -> bool
+fn is_region_too_many(tag: Tag, m: usize) -> bool
     requires { m ≤ max_regions }
-    ensures { result ≡ eqb tag 3 && too_many_regions (suc m) }
+    ensures { result ≡ eqb (number tag) 3 && too_many_regions (suc m) }
 {
-    if tag == 3 {
-        return too_many_regions(m + 1);
-    }
-    false
-}
-
-// A card that was read has no more circles and regions than there may be, so its values are left.
-fn value_refusal(card: Card) -> u8
-    requires { RestIsBlank card }
-    ensures { result ≡ card_refusal (take card.n card.circles) card.factor (take card.m card.masks) (take card.m card.areas) }
-{
-    let n = card.n;
-    let circles = card.circles;
-    let mut xs = [0.0f64; MAX_CIRCLES];
-    let mut ys = [0.0f64; MAX_CIRCLES];
-    let mut radii = [0.0f64; MAX_CIRCLES];
-    let mut inks = [0u16; MAX_CIRCLES];
-    split_array(circles, n, &mut xs, &mut ys, &mut radii, &mut inks);
-    let m = card.m;
-    let masks = card.masks;
-    let areas = card.areas;
-    number_of(
-        of_circles(&xs, &ys, &radii, &inks, n)
-            | of_regions(&masks[..m], &areas[..m])
-            | of_factor(card.factor),
-    )
+    tag == Tag::Region && too_many_regions(m + 1)
 }

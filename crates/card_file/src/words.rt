@@ -33,16 +33,9 @@ pub(crate) fn short_at(bytes: &[u8], at: usize, k: usize) -> u16
 pub(crate) fn byte_at(bytes: &[u8], at: usize, k: usize) -> u64
     ensures { (result ≡ get_or (drop at bytes.now) k 0) × (result < 256) }
 {
-    if at < bytes.len() {
-        if k < bytes.len() - at {
-            return wide(bytes[at + k]);
-        }
+    if at < bytes.len() && k < bytes.len() - at {
+        u64::from(bytes[at + k])
+    } else {
+        0
     }
-    0
-}
-
-fn wide(x: u8) -> u64
-    ensures { (result ≡ x) × (result < 256) }
-{
-    x as u64
 }

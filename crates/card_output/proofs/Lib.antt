@@ -4,6 +4,6 @@ pub mod ToBytes
 pub mod PutFields
 pub mod Printing
 pub mod ClusterNumbers
+pub mod Short
 pub mod Texts
-pub mod FrontCards
-pub mod CardRuns
+pub mod WrittenCards

@@ -1,50 +1,60 @@
 -- What is printed of a card: the refusal's text, or that of its layout. And its writing into a lent list.
-use Prim.Native.Nat.{ℕ, zero, suc, ◌≤◌, ◌<◌}
-use native.Mathlib.Omega.{arith}
-use mathlib.Core.Path.{◌≡◌, refl, sym, ◌∙◌}
-use mathlib.Core.Bool.{cond}
+use Prim.Native.Nat.{ℕ, ◌≤◌, ◌<◌}
+use mathlib.Core.Path.{◌≡◌, refl, sym, ap, ◌∙◌}
+use mathlib.Core.Bool.{true≢false}
 use mathlib.Core.List.{List}
+use lib.Dec.{eqb, ltb}
 use lib.Ieee.{Float}
-use lib.ListN.{length, take, drop}
-use lib.Seq.{length-take-le, take_at}
+use lib.ListN.{length}
 use borrow.Author.Tests.{lt-ltb, le-ltb}
 use Rattle.shapes.specs.declared.circle.Circle.{Circle}
 use Rattle.scope.specs.Numbers.{golden}
 use Rattle.scope.specs.Limits.{circle_cap, input_cap}
-use Rattle.scope.specs.Refusals.{answer, front_to_back, too_many, too_short, text_refusal}
-use Rattle.scope.specs.Layout.{Layout, layout}
-use Rattle.scope.specs.CardFile.{read_card}
+use Rattle.scope.specs.Refusals.{card_refusal, refused, given, front_to_back, too_short, text_refusal}
+use Rattle.scope.specs.Layout.{Layout, refused_layout, layout}
+use Rattle.scope.specs.CardFile.{values_refusal, read_card}
 use Rattle.scope.specs.Print.{printed, refused_text, answer_text, card_text}
-use Rattle.scope.specs.Saving.{refused_saving, accepted_saving, write_text}
-use Rattle.scope.specs.Twins.{first_layout}
-use Rattle.laws.proofs.Cases.{is_false}
-use Rattle.laws.proofs.Accepted.{not_too_many_iff}
+use Rattle.laws.proofs.Accepted.{layout_at_golden, within_limits}
+use Rattle.laws.proofs.AfterRefusal.{layout-answers}
+use Rattle.laws.proofs.CardFiles.{card_both_ways}
 use Rattle.laws.proofs.EntryPoints.{text_reads}
-use Rattle.laws.proofs.AfterRefusal.{write_text-answers}
 use Rattle.layout.proofs.Lengths.{layout-length}
 use Rattle.card_output.specs.Texts.{NoneAbove, layout_of}
+use Rattle.std.specs.Prelude.{Result, Ok, Err}
+use Rattle.std.specs.Result.{IsOk}
+use Rattle.intake.specs.Limits.{max_circles}
+use Rattle.refusals.specs.declared.Refusal.{Refusal}
+use Rattle.refusals.specs.Numbers.{number}
+use Rattle.refusals.proofs.Exits.{number-there}
+use Rattle.layout.specs.declared.normalize.Arrangement.{Arrangement}
+use Rattle.layout.specs.Answers.{laid_out}
 use Rattle.card_file.specs.Answers.{ReadCard}
+use Rattle.card_output.proofs.Short.{fifteen_if}
 use Rattle.card_output.proofs.ClusterNumbers.{layout-numbers}
 
--- ---- the layout's text is that of its first n circles
+-- ---- the layout of a card with accepted values
 
-module _ (n : ℕ) (cs : List Circle) (factor : Float) (masks : List ℕ) (areas : List Float) (proportion : Float) (full : length cs ≡ circle_cap) (few : n ≤ circle_cap) where
+module _ (cs : List Circle) (factor : Float) (masks : List ℕ) (areas : List Float) (values : card_refusal cs factor masks areas ≡ 0) where
   abbrev laid : Layout
-  laid = layout (take n cs) factor masks areas proportion
+  laid = layout cs factor masks areas golden
 
-  pub laid_out_prints : (l : Layout) → l ≡ first_layout n cs factor masks areas proportion
-      → printed (layout_of l.circles n l.result.count l.result.numbers l.result.moved l.result.padding) ≡ printed laid
-  unfolding printed first_layout
-  laid_out_prints l e =
-      let inside : n ≤ length cs = omega arith in
-      let long : length laid.circles ≡ n = layout-length (take n cs) factor masks areas proportion ∙ length-take-le n cs inside in
-      rw (e, is_false (too_many n) ((not_too_many_iff n).1 few), take_at laid.circles (drop n cs) n long)
+  -- so it is not refused
+  pub laid_out-given : (r : Result Arrangement Refusal) (after : List Circle) → laid_out r after ≡ laid → IsOk r
+  unfolding refused_layout
+  laid_out-given (Ok a) after e = refl
+  laid_out-given (Err r) after e =
+      let accepted = (layout-answers cs factor masks areas golden).says ∙ layout_at_golden cs factor masks areas ∙ values in
+      let none : number r ≡ 0 = ap (λ (l : Layout). l.result.refusal) e ∙ accepted in
+      absurd (true≢false (ap (λ (n : ℕ). eqb n 0) (sym none) ∙ number-there r))
 
-  pub laid_out-fits : (l : Layout) → l ≡ first_layout n cs factor masks areas proportion → (l.result.count ≤ n) × NoneAbove n l.result.numbers
-  unfolding first_layout
-  laid_out-fits l e =
-      let inside : n ≤ length cs = omega arith in
-      rw (e, is_false (too_many n) ((not_too_many_iff n).1 few)) (rw (length-take-le n cs inside) at (layout-numbers (take n cs) factor masks areas proportion))
+  pub laid_out-fits : (a : Arrangement) (after : List Circle) → layout_of a after ≡ laid
+      → (length after ≤ max_circles) × (a.count ≤ length after) × NoneAbove (length after) a.numbers
+  unfolding circle_cap
+  laid_out-fits a after e =
+      let few = (within_limits cs factor masks areas values).few_circles in
+      let long : length after ≡ length cs = ap (λ (l : Layout). length l.circles) e ∙ layout-length cs factor masks areas golden in
+      let fits = rw (← e) at (layout-numbers cs factor masks areas golden) in
+      rw long (few, fits.0, fits.1)
 
 -- ---- which text it is
 
@@ -56,35 +66,23 @@ short-text : (input : List ℕ) → length input ≤ input_cap → answer_text (
 unfolding card_text
 short-text input h = rw (le-ltb input_cap (length input) h)
 
-module _ (input : List ℕ) (short : length input ≤ input_cap) (k : ℕ) (card : ReadCard) (e : answer k card ≡ read_card input) where
-  of_answer : answer_text (answer k card) ≡ card_text input
-  of_answer = rw e (short-text input short)
+module _ (input : List ℕ) (short : length input ≤ input_cap) where
+  pub refusal-text : (k : ℕ) → refused k ≡ read_card input → refused_text k ≡ card_text input
+  unfolding answer_text
+  refusal-text k e = rw (← e) at (short-text input short)
 
-  pub refusal-text : (k ≡ 0 → ⊥) → refused_text k ≡ card_text input
-  unfolding answer answer_text
-  refusal-text h = by_number k refl of_answer
-    where
-      by_number : (j : ℕ) → j ≡ k → answer_text (answer j card) ≡ card_text input → refused_text k ≡ card_text input
-      by_number zero q t = absurd (h (sym q))
-      by_number (suc j) q t = rw (← q) t
+  pub given-text : (card : ReadCard) → given card ≡ read_card input
+      → printed (layout card.circles card.factor card.masks card.areas golden) ≡ card_text input
+  unfolding answer_text
+  given-text card e = rw (← e) at (short-text input short)
 
-  pub given-text : k ≡ 0 → printed (layout card.circles card.factor card.masks card.areas golden) ≡ card_text input
-  unfolding answer answer_text
-  given-text z = rw z at of_answer
+-- a card that was read has accepted values
+pub values-accepted : (input : List ℕ) (card : ReadCard) → given card ≡ read_card input → values_refusal card ≡ 0
+values-accepted input card e = (((card_both_ways input).gives card).0 (sym e)).1
 
 -- ---- the text written into a lent list
 
-module _ (input out : List ℕ) where
-  text-number : text_refusal (length out) (length (card_text input)) ≡ cond (too_short (length out) (length (card_text input))) 15 0
-  unfolding front_to_back
-  text-number = (text_reads (length out) (length (card_text input))).runs
-
-  pub text-refused : length out < length (card_text input) → refused_saving out 15 ≡ write_text input out
-  unfolding too_short
-  text-refused h =
-      let fifteen : text_refusal (length out) (length (card_text input)) ≡ 15 = text-number ∙ rw (lt-ltb (length out) (length (card_text input)) h) in
-      sym (rw fifteen at ((write_text-answers input out).at_refusal (λ z. omega (arith, fifteen))))
-
-  pub text-written : length (card_text input) ≤ length out → accepted_saving (card_text input) out ≡ write_text input out
-  unfolding too_short
-  text-written h = sym ((write_text-answers input out).on_acceptance (text-number ∙ rw (le-ltb (length out) (length (card_text input)) h)))
+pub text-number : (input out : List ℕ)
+    → text_refusal (length out) (length (card_text input)) ≡ fifteen_if (ltb (length out) (length (card_text input)))
+unfolding front_to_back too_short
+text-number input out = (text_reads (length out) (length (card_text input))).runs

@@ -1,10 +1,12 @@
 -- The text that is printed, in its array, and the parts that it is put together from.
-use Rattle.std.specs.Prelude.{ℕ, ◌+◌, ◌*◌, ◌-◌, ◌≤◌, ◌<◌, ◌≡◌, List, [], ◌++◌, length, get_or, take, Float}
+use Rattle.std.specs.Prelude.{ℕ, ◌+◌, ◌*◌, ◌-◌, ◌≤◌, ◌<◌, ◌≡◌, List, [], ◌++◌, length, get_or}
 use Rattle.shapes.specs.declared.circle.Circle.{Circle}
 use Rattle.scope.specs.Runs.{filled, in_turn}
 use Rattle.scope.specs.Links.{circle}
 use Rattle.scope.specs.Layout.{Layout}
 use Rattle.scope.specs.Print.{line}
+use Rattle.layout.specs.declared.normalize.Arrangement.{Arrangement}
+use Rattle.layout.specs.Answers.{outcome_of}
 
 abbrev pub max_text : ℕ
 max_text = 4096
@@ -25,7 +27,6 @@ lines_of circles numbers i = in_turn i (λ i text. text ++ line i (get_or number
 abbrev pub lines_room : ℕ → ℕ
 lines_room i = 61 * i + 2 * (i - 10)
 
--- an accepted layout of the first n circles
-abbrev pub layout_of : List Circle → ℕ → ℕ → List ℕ → ℕ → Float → Layout
-layout_of circles n count numbers moved padding =
-    record { result = record { refusal = 0; count = count; numbers = numbers; moved = moved; padding = padding }; circles = take n circles }
+-- an accepted layout
+abbrev pub layout_of : Arrangement → List Circle → Layout
+layout_of a circles = record { result = outcome_of a; circles = circles }

@@ -5,23 +5,26 @@ mod lines;
 mod puts;
 mod writing;
 
-ghost use Rattle.std.specs.Prelude.{◌≡◌, take};
+ghost use Rattle.std.specs.Prelude.{◌≡◌, ◌≤◌, take};
 ghost use Rattle.scope.specs.Numbers.{golden};
 ghost use Rattle.scope.specs.Layout.{layout};
+ghost use Rattle.scope.specs.CardFile.{values_refusal};
 ghost use Rattle.scope.specs.Print.{printed, card_text};
 ghost use Rattle.scope.specs.Saving.{card_of, write_card, write_text};
-ghost use Rattle.scope.specs.Twins.{first_written};
 ghost use Rattle.card_output.specs.Saving.{saved, ReadsBack};
 ghost use Rattle.card_output.specs.Texts.{IsText};
+ghost use Rattle.card_file.specs.Answers.{shown};
 ghost use Rattle.card_file.specs.Unused.{RestIsBlank};
 
 use crate::lines::{printed, refused_text};
 use crate::puts::put_bytes;
-use crate::writing::written_at;
-use card_file::cards::{Card, read_card};
-use intake::limits::{GOLDEN, MAX_CIRCLES};
-use intake::runs::{split, split_array};
-use layout::normalize::normalize_layout_with_clusters_by_value;
+use crate::writing::{is_short, put_file};
+use card_file::card::Card;
+use card_file::cards::read_card;
+use intake::checks::check_card;
+use intake::limits::GOLDEN;
+use layout::normalize::normalize_layout_with_clusters;
+use refusals::{Refusal, refuse_if};
 use shapes::circle::Circle;
 
 // A longer input is refused (2), before anything is read as a field.
@@ -38,6 +41,15 @@ pub const MAX_FILE: usize = 40779;
 pub struct Text {
     pub length: usize,
     pub bytes: [u8; MAX_TEXT],
+    ghost fits: { length ≤ 4096 },
+}
+
+impl Text {
+    pub fn as_bytes(&self) -> &[u8]
+        ensures { result.now ≡ take self.now.length self.now.bytes }
+    {
+        &self.bytes[..self.length]
+    }
 }
 
 // The very bytes that program `card` prints for an input.
@@ -45,113 +57,66 @@ pub fn card_text(input: &[u8]) -> Text
     ensures { IsText (card_text input.now) result.length result.bytes }
 {
     if input.len() > MAX_INPUT {
-        return refused_text(2);
+        return refused_text(Refusal::TooManyRegions);
     }
     let card = read_card(input);
-    let refusal = card.refusal;
-    if refusal != 0 {
-        return refused_text(refusal);
+    match card.refusal {
+        Some(refusal) => refused_text(refusal),
+        None => layout_text(card),
     }
-    layout_text(card)
 }
 
 // The layout of a card that was read, at 1.618.
 fn layout_text(card: Card) -> Text
-    requires { RestIsBlank card }
+    requires { RestIsBlank card × (values_refusal (shown card) ≡ 0) }
     ensures { IsText (printed (layout (take card.n card.circles) card.factor (take card.m card.masks)
         (take card.m card.areas) golden)) result.length result.bytes }
 {
-    let n = card.n;
-    let circles = card.circles;
-    let m = card.m;
+    // Copies, as in `read_card`: nothing points into the card.
+    let mut placed = card.circles;
+    let circles = &mut placed[..card.n];
     let masks = card.masks;
     let areas = card.areas;
-    let laid = normalize_layout_with_clusters_by_value(
+    let laid = normalize_layout_with_clusters(
         circles,
-        n,
         card.factor,
-        &masks[..m],
-        &areas[..m],
+        &masks[..card.m],
+        &areas[..card.m],
         GOLDEN,
-    );
-    let result = laid.result;
-    let placed = laid.circles;
-    let numbers = result.numbers;
-    printed(
-        placed,
-        n,
-        result.count,
-        numbers,
-        result.moved,
-        result.padding,
     )
+    .unwrap();
+    printed(circles, &laid)
 }
 
-// A refusal's number or 0, and how many bytes were written from the start of a lent list: 0 where the call is refused.
-#[repr(C)]
-#[derive(Clone, Copy)]
-pub struct Written {
-    pub refusal: u8,
-    pub length: usize,
-}
-
-// The text that `card_text` has, in a lent list. What lies behind it stays, and a list too short (15) is not written to.
-pub fn write_text(input: &[u8], out: &mut [u8]) -> Written
+// The text that `card_text` has, put into a lent list, and how many bytes it has. What lies behind it stays, and a list too short (15)
+// is not written to.
+pub fn write_text(input: &[u8], out: &mut [u8]) -> Result<usize, Refusal>
     ensures { saved result out.new ≡ write_text input.now out.old }
 {
     let text = card_text(input);
-    let bytes = text.bytes;
-    let length = text.length;
-    if out.len() < length {
-        return Written {
-            refusal: 15,
-            length: 0,
-        };
-    }
-    put_bytes(out, 0, &bytes[..length]);
-    Written { refusal: 0, length }
+    refuse_if(out.len() < text.length, Refusal::OutputTooShort)?;
+    Ok(put_bytes(out, 0, text.as_bytes()))
 }
 
-// Puts the file of a card into a lent list: 11 bytes, 29 for each circle, 19 for each region. An area goes by its pattern, since a float keeps no NaN's digits.
-// What lies behind the file stays, and a refused list is not written to.
-// Refused: too many circles (1), lists of unequal length (13), too many regions (2), a centre (3), a radius (4), masks that do not rise (5), the factor (6),
-// two circles of one ink (14), a list too short (15).
+// Puts the file of a card into a lent list, and gives its length: 11 bytes, 29 for each circle, 19 for each region. An area goes
+// by its pattern, since a float keeps no NaN's digits. What lies behind the file stays, and a refused list is not written to.
+// Refused: too many circles (1), lists of unequal length (13), too many regions (2), a centre (3), a radius (4), masks that do not
+// rise (5), the factor (6), two circles of one ink (14), a list too short (15).
 pub fn write_card(
     circles: &[Circle],
     factor: f64,
     masks: &[u64],
     patterns: &[u64],
     out: &mut [u8],
-) -> Written
+) -> Result<usize, Refusal>
     ensures { (saved result out.new
         ≡ write_card (card_of factor circles.now masks.now patterns.now) out.old)
         × ReadsBack (card_of factor circles.now masks.now patterns.now) result out.new }
 {
-    let mut xs = [0.0; MAX_CIRCLES];
-    let mut ys = [0.0; MAX_CIRCLES];
-    let mut radii = [0.0; MAX_CIRCLES];
-    let mut inks = [0u16; MAX_CIRCLES];
-    let n = circles.len();
-    split(circles, &mut xs, &mut ys, &mut radii, &mut inks);
-    written_at(&xs, &ys, &radii, &inks, n, factor, masks, patterns, out)
-}
-
-// The same of the first n circles of an array. The others are not looked at.
-pub fn write_card_by_value(
-    circles: [Circle; MAX_CIRCLES],
-    n: usize,
-    factor: f64,
-    masks: &[u64],
-    patterns: &[u64],
-    out: &mut [u8],
-) -> Written
-    ensures answer { saved result out.new ≡ first_written n circles factor masks.now patterns.now out.old }
-    ensures back { ReadsBack (card_of factor (take n circles) masks.now patterns.now) result out.new }
-{
-    let mut xs = [0.0; MAX_CIRCLES];
-    let mut ys = [0.0; MAX_CIRCLES];
-    let mut radii = [0.0; MAX_CIRCLES];
-    let mut inks = [0u16; MAX_CIRCLES];
-    split_array(circles, n, &mut xs, &mut ys, &mut radii, &mut inks);
-    written_at(&xs, &ys, &radii, &inks, n, factor, masks, patterns, out)
+    check_card(circles, factor, masks, patterns.len())?;
+    refuse_if(
+        is_short(out.len(), circles.len(), masks.len()),
+        Refusal::OutputTooShort,
+    )?;
+    Ok(put_file(out, circles, factor, masks, patterns))
 }

@@ -2,6 +2,7 @@
 ghost use Rattle.std.specs.Prelude.{◌≡◌, ◌++◌, ◌+◌, ◌*◌, ◌/◌, ◌%◌, ◌^◌, ◌≤◌, ◌<◌, length};
 ghost use Rattle.scope.specs.Text.{bytes};
 ghost use Rattle.scope.specs.Print.{decimal, hex_digit, sixteen_digits, float, line, printed, refused_text};
+ghost use Rattle.refusals.specs.Numbers.{number};
 ghost use Rattle.intake.specs.Limits.{max_circles};
 ghost use Rattle.card_output.specs.Texts.{IsText, NoneAbove, lines_of, lines_room, layout_of};
 ghost use Rattle.card_output.specs.Puts.{Put};
@@ -9,38 +10,33 @@ ghost use Rattle.card_output.specs.Puts.{Put};
 use crate::puts::{put_byte, put_bytes};
 use crate::{MAX_TEXT, Text};
 use bits::bits_of;
-use intake::limits::MAX_CIRCLES;
+use layout::normalize::Arrangement;
+use refusals::Refusal;
 use shapes::circle::Circle;
 
 // What a refusal prints.
-pub(crate) fn refused_text(number: u8) -> Text
-    ensures { IsText (refused_text number) result.length result.bytes }
+pub(crate) fn refused_text(refusal: Refusal) -> Text
+    ensures { IsText (refused_text (number refusal)) result.length result.bytes }
 {
     let mut bytes = [0u8; MAX_TEXT];
-    let end = put_count(&mut bytes, 0, b"refused ", number as u64);
+    let end = put_count(&mut bytes, 0, b"refused ", refusal.number() as u64);
     let length = put_byte(&mut bytes, end, b'\n');
     Text { length, bytes }
 }
 
-// What a layout prints: a line for the whole, then one for each of its n circles.
-pub(crate) fn printed(
-    circles: [Circle; MAX_CIRCLES],
-    n: usize,
-    count: usize,
-    numbers: [u8; MAX_CIRCLES],
-    moved: u64,
-    padding: f64,
-) -> Text
-    requires { (n ≤ max_circles) × (count ≤ n) × NoneAbove n numbers }
-    ensures { IsText (printed (layout_of circles n count numbers moved padding)) result.length result.bytes }
+// What a layout prints: a line for the whole, then one for each of its circles.
+pub(crate) fn printed(circles: &[Circle], laid: &Arrangement) -> Text
+    requires { (length circles.now ≤ max_circles) × (laid.now.count ≤ length circles.now)
+        × NoneAbove (length circles.now) laid.now.numbers }
+    ensures { IsText (printed (layout_of laid.now circles.now)) result.length result.bytes }
 {
     let mut bytes = [0u8; MAX_TEXT];
-    let circles_end = put_count(&mut bytes, 0, b"circles ", n as u64);
-    let clusters_end = put_count(&mut bytes, circles_end, b" clusters ", count as u64);
-    let moved_end = put_digits(&mut bytes, clusters_end, b" moved ", moved);
-    let padding_end = put_digits(&mut bytes, moved_end, b" padding ", bits_of(padding));
+    let circles_end = put_count(&mut bytes, 0, b"circles ", circles.len() as u64);
+    let clusters_end = put_count(&mut bytes, circles_end, b" clusters ", laid.count as u64);
+    let moved_end = put_digits(&mut bytes, clusters_end, b" moved ", laid.moved);
+    let padding_end = put_digits(&mut bytes, moved_end, b" padding ", bits_of(laid.padding));
     let head = put_byte(&mut bytes, padding_end, b'\n');
-    let length = put_lines(&mut bytes, head, circles, n, numbers);
+    let length = put_lines(&mut bytes, head, circles, &laid.numbers);
     Text { length, bytes }
 }
 
@@ -60,22 +56,15 @@ fn put_line(out: &mut [u8], at: usize, i: usize, cluster: u8, c: Circle) -> usiz
     put_byte(out, ink_end, b'\n')
 }
 
-fn put_lines(
-    out: &mut [u8],
-    at: usize,
-    circles: [Circle; MAX_CIRCLES],
-    n: usize,
-    numbers: [u8; MAX_CIRCLES],
-) -> usize
-    requires { (n ≤ max_circles) × NoneAbove n numbers × (at + lines_room max_circles ≤ length out.old) }
-    ensures { Put (lines_of circles numbers n) at out.old result out.new × (result ≤ at + lines_room max_circles) }
+fn put_lines(out: &mut [u8], at: usize, circles: &[Circle], numbers: &[u8]) -> usize
+    requires { (length circles.now ≤ max_circles) × (length numbers.now ≡ max_circles) × NoneAbove (length circles.now) numbers.now
+        × (at + lines_room max_circles ≤ length out.old) }
+    ensures { Put (lines_of circles.now numbers.now (length circles.now)) at out.old result out.new
+        × (result ≤ at + lines_room max_circles) }
 {
     let mut next = at;
-    let mut i: usize = 0;
-    while i < n {
-        let after = put_line(out, next, i, numbers[i], circles[i]);
-        next = after;
-        i += 1;
+    for (i, c) in circles.iter().enumerate() {
+        next = put_line(out, next, i, numbers[i], *c);
     }
     next
 }
@@ -146,11 +135,8 @@ fn put_sixteen(out: &mut [u8], at: usize, n: u64) -> usize
     ensures { Put (sixteen_digits n) at out.old result out.new × (result ≡ at + 16) }
 {
     let mut next = at;
-    let mut i: u64 = 0;
-    while i < 16 {
-        let after = put_byte(out, next, digit_at(n, 15 - i));
-        next = after;
-        i += 1;
+    for k in (0..16).rev() {
+        next = put_byte(out, next, digit_at(n, k));
     }
     next
 }
@@ -168,8 +154,5 @@ fn hexadecimal_digit(d: u64) -> u8
     requires { d < 16 }
     ensures { result ≡ hex_digit d }
 {
-    if d < 10 {
-        return 48 + d as u8;
-    }
-    87 + d as u8
+    if d < 10 { 48 + d as u8 } else { 87 + d as u8 }
 }

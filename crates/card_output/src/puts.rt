@@ -16,14 +16,9 @@ pub(crate) fn put_bytes(out: &mut [u8], at: usize, bytes: &[u8]) -> usize
     requires { at + length bytes.now ≤ length out.old }
     ensures { Put bytes.now at out.old result out.new }
 {
-    let mut next = at;
-    let mut i: usize = 0;
-    while i < bytes.len() {
-        let after = put_byte(out, next, bytes[i]);
-        next = after;
-        i += 1;
-    }
-    next
+    let end = at + bytes.len();
+    out[at..end].copy_from_slice(bytes);
+    end
 }
 
 // ---- words, the lowest byte first

@@ -1,4 +1,2 @@
 pub mod Sheets
-pub mod Joining
-pub mod Doubles
-pub mod FirstStocks
+pub mod Finished

@@ -4,6 +4,9 @@ use native.Mathlib.Numerals.{add-one}
 use native.Mathlib.Omega.{arith}
 use mathlib.Core.Path.{◌≡◌, refl, sym, ap, ◌∙◌}
 use mathlib.Core.List.{List, [], ◌∷◌}
+use mathlib.Core.Bool.{true, false}
+use borrow.Author.Tests.{eqb-true, eqb-false}
+use lib.Dec.{eqb}
 use lib.Ieee.{Float}
 use lib.ListN.{length, take}
 use lib.Seq.{get_or-take, length-take-le}
@@ -27,14 +30,17 @@ module _ (cs : List Circle) where
   pub first_box_next : (i : ℕ) → union_of (first_box i) (circle_box (circle cs i)) ≡ first_box (i + 1)
   first_box_next i = rw (add-one i) (sym (gather-takes union_of nothing always i (λ k. circle_box (circle cs k)) tt))
 
-  pub first-box_all : (n : ℕ) → n ≤ length cs → first_box n ≡ sheet (take n cs)
+  pub first-box_all : first_box (length cs) ≡ sheet cs
   unfolding box_all
-  first-box_all n h =
-      rw (length-take-le n cs h)
-      (gather_equal union_of nothing always always n (λ k. circle_box (circle cs k)) (λ k. circle_box (circle (take n cs) k)) (λ k l. refl)
-      (λ k l. ap circle_box (sym (get_or-take n cs k nowhere l))))
+  first-box_all = refl
 
 -- ---- what it costs, with a circle and with none
+pub none_there : (cs : List Circle) → eqb (length cs) 0 ≡ true → length cs ≡ 0
+none_there cs e = eqb-true (length cs) 0 e
+
+pub some_there : (cs : List Circle) → eqb (length cs) 0 ≡ false → 0 < length cs
+some_there cs e = let away = eqb-false (length cs) 0 e in omega (arith, away)
+
 pub stock_of_none : (cs : List Circle) (cents : ℕ) → length cs ≡ 0 → 0 ≡ stock_for cs cents
 unfolding stock_for
 stock_of_none [] cents h = refl

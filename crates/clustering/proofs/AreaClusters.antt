@@ -8,7 +8,7 @@ use Rattle.scope.specs.Runs.{filled}
 use Rattle.scope.specs.Limits.{circle_cap}
 use Rattle.scope.specs.Refusals.{regions_refusal}
 use Rattle.scope.specs.Links.{regions}
-use Rattle.scope.specs.Groups.{clusters, Grouping, grouping, area_grouping}
+use Rattle.scope.specs.Groups.{clusters, Grouping, area_grouping}
 use Rattle.laws.proofs.Accepted.{not_too_many_iff, not_unequal_iff}
 use Rattle.laws.proofs.EntryPoints.{regions_reads}
 use Rattle.laws.proofs.AfterRefusal.{area_grouping-answers}
@@ -21,11 +21,6 @@ module _ (n : ℕ) (masks : List ℕ) (areas : List Float) where
 
   pub regions_equal : regions_refusal n masks areas ≡ 0 → length masks ≡ length areas
   regions_equal h = (not_unequal_iff masks areas).0 ((regions_reads n masks areas).accepted.0 h).1.0
-
-  pub area-accepted : (tol : Float) → regions_refusal n masks areas ≡ 0
-      → grouping 0 (clusters n (regions masks areas) tol) ≡ area_grouping n masks areas tol
-  unfolding area_grouping
-  area-accepted tol h = rw h
 
   -- the numbers of an accepted answer
   pub area_chains : (tol : Float) (r : Grouping) → r ≡ area_grouping n masks areas tol → r.refusal ≡ 0 → NumbersByChains n tol (regions masks areas) r.numbers

@@ -164,9 +164,6 @@ module _ (n : ℕ) (t : Marks) (i all joined rest : ℕ) (hi : i < n) (left : Le
 -- ---- rows closed in turn
 
 module _ (n : ℕ) (t : Marks) {rows : List ℕ} where
-  pub none_closed : Holds n rows (at t) → Holds n rows (closed_to 0 n t)
-  none_closed s = holds_same (closed_to 0 n t) (λ a b ha hb. rw (le-ltb a 0 (omega arith))) s
-
   pub row_closed : (i row : ℕ) → ((j : ℕ) → bit row j ≡ (ltb j n && at (closure n t) i j)) → Holds n rows (closed_to i n t) → Holds n (set rows i row) (closed_to (i + 1) n t)
   row_closed i row e s = holds-set i row (closed_to (i + 1) n t) (λ hi j. rw (lt-ltb i (i + 1) (omega arith)) (e j)) (λ a b ha hb p. rw (ltb_more a i p)) s
 

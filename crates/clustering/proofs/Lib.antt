@@ -1,4 +1,3 @@
-pub mod Finite
 pub mod Table
 pub mod Packing
 pub mod Linking
@@ -7,5 +6,4 @@ pub mod Rows
 pub mod Growing
 pub mod Numbering
 pub mod AreaClusters
-pub mod PlainClusters
 pub mod Tolerances

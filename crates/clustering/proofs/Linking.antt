@@ -25,28 +25,17 @@ use Rattle.laws.proofs.OneMoreRegion.{share_append}
 use Rattle.laws.proofs.Overlap.{overlap_swapped}
 use Rattle.laws.proofs.Clusters.{meet}
 use Rattle.clustering.specs.Table.{cell, mark, Shows, Holds}
-use Rattle.clustering.proofs.Table.{put, shows_put, along, down}
+use Rattle.clustering.proofs.Table.{along, down}
 use Rattle.clustering.proofs.Rows.{holds_same, holds-set}
 
 -- ---- each circle linked to itself, as far as circle i
 abbrev pub diagonal : ℕ → ℕ → ℕ → Bool
 diagonal i a b = eqb a b && ltb a i
 
-pub diagonal-empty : (a b : ℕ) → false ≡ diagonal 0 a b
-diagonal-empty a b = rw (le-ltb a 0 (omega arith), and-false (eqb a b))
-
 diagonal_other : (i a b : ℕ) → (a ≡ i → b ≡ i → ⊥) → diagonal i a b ≡ diagonal (i + 1) a b
 diagonal_other i a b h = elim (ℕ_discrete a i) [ yes p ↦ rw (ne_eqb a b (λ e. h p (sym e ∙ p))) | no p ↦ rw (ltb_more a i p) ]
 
-pub diagonal-whole : (n i : ℕ) → n ≤ i → (a b : ℕ) → a < n → b < n → diagonal i a b ≡ eqb a b
-diagonal-whole n i h a b ha hb = rw (lt-ltb a i (omega arith)) (and-true (eqb a b))
-
--- circle i, in a table
-pub diagonal-step : (n i : ℕ) {m : List (List ℕ)} → i < n → Shows n m (diagonal i) → Shows n (put m i i 1) (diagonal (i + 1))
-diagonal-step n i hi s =
-    shows_put i i 1 (diagonal (i + 1)) hi (λ _. rw (eq-eqb i i refl, lt-ltb i (i + 1) (omega arith))) (λ a b ha hb h. diagonal_other i a b h) s
-
--- and in packed rows
+-- circle i, in packed rows
 only_self : (n i j : ℕ) → i < n → eqb i j ≡ (ltb j n && eqb i j)
 only_self n i j hi = elim (ℕ_discrete i j) [
   | yes e ↦ rw (← e, eq-eqb i i refl, lt-ltb i n hi)

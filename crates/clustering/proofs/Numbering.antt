@@ -13,21 +13,18 @@ use lib.Dec.{T, eqb}
 use Rattle.scope.specs.Runs.{many, tab, filled}
 use Rattle.scope.specs.Limits.{circle_cap}
 use Rattle.scope.specs.Closure.{Marks, at}
-use Rattle.scope.specs.Groups.{leader, leads, number, clusters_of, Grouping, grouping}
+use Rattle.scope.specs.Groups.{leader, leads, number, clusters_of, Grouping, accepted_grouping}
 use Rattle.laws.proofs.Cases.{tested, is_true, is_false}
 use Rattle.laws.proofs.Runs.{many-takes, many-leaves, length-tab, get_or_tab, get_or_tab_past, length-filled, get_or_filled_any}
 use Rattle.laws.proofs.Closure.{Equivalence}
 use Rattle.laws.proofs.Numbers.{leads_iff, leader_at_most, leader-leads, same_leader_iff_marked}
-use Rattle.clustering.specs.Table.{cell, Shows, Given}
+use Rattle.clustering.specs.Table.{Row, Given}
 use Rattle.clustering.proofs.Linking.{test_of_mark}
 
 -- ---- a value stored where a row is marked, place by place
 
-pub shown_test : {n : ℕ} {m : List (List ℕ)} {f : ℕ → ℕ → Bool} (i j : ℕ) → i < n → j < n → Shows n m f → not (eqb (cell m i j) 0) ≡ f i j
-shown_test {f = f} i j hi hj s = rw (s.cells i j hi hj) (test_of_mark (f i j))
-
-pub given-none : (p : ℕ → Bool) (v : ℕ) (l : List ℕ) → Given 0 p v l l
-given-none p v l = record { long = refl; inside = λ k h g. absurd (omega arith); outside = λ k h. refl }
+pub row_test : (n : ℕ) (row : List ℕ) (p : ℕ → Bool) (j : ℕ) → j < n → Row n row p → not (eqb (get_or row j 0) 0) ≡ p j
+row_test n row p j hj r = rw (r j hj) (test_of_mark (p j))
 
 module _ {p : ℕ → Bool} {v : ℕ} {old new : List ℕ} where
   pub given_next : (j x : ℕ) (b : Bool) → b ≡ p j → x ≡ cond b v (get_or new j 0) → Given j p v old new → Given (j + 1) p v old (set new j x)
@@ -130,8 +127,8 @@ module _ (n : ℕ) (t : Marks) (q : Equivalence n t) (i : ℕ) (hi : i < n) wher
         before b hb k = let other = none b hb in omega arith
 
 pub numbered_all : (n : ℕ) (t : Marks) (q : Equivalence n t) (i c : ℕ) (l s : List ℕ) → n ≤ circle_cap → i ≤ n → n ≤ i → length l ≡ circle_cap → Numbered n t i c l s
-    → ◌≡◌ {A = Grouping} (record { refusal = 0; count = c; numbers = l }) (grouping 0 (clusters_of n t))
-unfolding grouping clusters_of
+    → ◌≡◌ {A = Grouping} (record { refusal = 0; count = c; numbers = l }) (accepted_grouping (clusters_of n t))
+unfolding clusters_of
 numbered_all n t q i c l s hn h e hl g = rw (counted, listed)
   where
     counted : c ≡ many n (leads n t)

@@ -12,7 +12,7 @@ use lib.Bits.{bit_or, or_zero_r, or_shifted_r}
 use lib.Pow.{shl_exact}
 use lib.Seq.{get_or-set_same, get_or-set_other}
 use lib.Dec.{eqb, ltb}
-use borrow.Author.Tests.{lt-ltb, le-ltb, eq-eqb, ne_eqb}
+use borrow.Author.Tests.{lt-ltb, eq-eqb, ne_eqb}
 use Rattle.scope.specs.Runs.{bit, gather}
 use Rattle.scope.specs.PackedRows.{packed_row}
 use Rattle.laws.proofs.Cases.{ltb_more}
@@ -42,9 +42,6 @@ mark-small false = omega arith
 pub packed_step : (w j x c : ℕ) (p : ℕ → Bool) → j < w → c ≡ mark (p j) → x ≡ packed_row j p → bit_or x (c * 2 ^ j % 2 ^ w) ≡ packed_row (j + 1) p
 packed_step w j x c p h e g = rw (e, g, shl_exact 1 j w (mark-small (p j)) (omega arith)) (sym (packed_more j p))
 
-pub packed_end : (n j x : ℕ) (p : ℕ → Bool) → j ≤ n → n ≤ j → x ≡ packed_row j p → x ≡ packed_row n p
-packed_end n j x p h g e = let same : j ≡ n = omega arith in e ∙ ap (λ (k : ℕ). packed_row k p) same
-
 -- ---- a table of marks as words, row by row
 
 -- the rows before i are held; the words from i on are free
@@ -53,9 +50,6 @@ pub record HeldTo (n i : ℕ) (rows : List ℕ) (f : ℕ → ℕ → Bool) : Typ
   pub places : (a j : ℕ) → a < i → bit (get_or rows a 0) j ≡ (ltb j n && f a j)
 
 module _ (n : ℕ) (f : ℕ → ℕ → Bool) where
-  pub held_start : (rows : List ℕ) → n ≤ length rows → HeldTo n 0 rows f
-  held_start rows h = record { words = h; places = λ a j l. absurd (omega arith) }
-
   pub held_more : (i w : ℕ) {rows : List ℕ} → i < n → w ≡ packed_row n (f i) → HeldTo n i rows f → HeldTo n (i + 1) (set rows i w) f
   held_more i w {rows} hi e s =
       record {
@@ -133,9 +127,6 @@ abbrev pub shown_to : (ℕ → ℕ → Bool) → (ℕ → ℕ → Bool) → ℕ 
 shown_to f g i a b = cond (ltb a i) (f a b) (g a b)
 
 module _ (n : ℕ) (f g : ℕ → ℕ → Bool) where
-  pub shown_start : {m : List (List ℕ)} → Shows n m g → Shows n m (shown_to f g 0)
-  shown_start s = shows_same (shown_to f g 0) (λ a b ha hb. rw (le-ltb a 0 (omega arith))) s
-
   pub shown_end : (i : ℕ) {m : List (List ℕ)} → n ≤ i → Shows n m (shown_to f g i) → Shows n m f
   shown_end i h s = shows_same f (λ a b ha hb. rw (lt-ltb a i (omega arith))) s
 

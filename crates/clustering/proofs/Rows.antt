@@ -3,7 +3,7 @@ use Prim.Native.Nat.{ℕ, ◌≤◌, ◌<◌}
 use native.Mathlib.Omega.{arith}
 use native.Mathlib.Decide.{dec_lt, ℕ_discrete}
 use mathlib.Core.Path.{◌≡◌, refl, sym, ◌∙◌}
-use mathlib.Core.Bool.{Bool, true, false, not, ◌&&◌, ◌||◌, and-true, and-false, and-not_self, or-false}
+use mathlib.Core.Bool.{Bool, true, false, not, ◌&&◌, ◌||◌, and-true, and-false, or-false}
 use mathlib.Core.List.{List}
 use lib.Bits.{bit_or}
 use lib.Dec.{eqb, ltb}
@@ -48,9 +48,6 @@ holds-set {n} {rows} {f} i x g t e s = record { words = rw (length-set rows i x)
 -- ---- a mask joined to the row of each of its circles but those of `rest`
 abbrev pub joined_but : ℕ → ℕ → (ℕ → ℕ → Bool) → ℕ → ℕ → Bool
 joined_but mask rest f a b = f a b || ((bit mask a && not (bit rest a)) && bit mask b)
-
-pub mask_start : (n mask : ℕ) (f : ℕ → ℕ → Bool) {rows : List ℕ} → Holds n rows f → Holds n rows (joined_but mask mask f)
-mask_start n mask f s = holds_same (joined_but mask mask f) (λ a b ha hb. rw (and-not_self (bit mask a)) (sym (or-false (f a b)))) s
 
 pub mask_step : (n mask rest after i : ℕ) (f : ℕ → ℕ → Bool) {rows : List ℕ} → bit mask i ≡ true → bit rest i ≡ true
     → ((j : ℕ) → bit after j ≡ (bit rest j && not (eqb j i))) → ((j : ℕ) → n ≤ j → bit mask j ≡ false)

@@ -3,7 +3,7 @@ use Prim.Native.Nat.{ℕ, ◌+◌, ◌≤◌, ◌<◌}
 use native.Mathlib.Omega.{arith}
 use native.Mathlib.Decide.{ℕ_discrete}
 use mathlib.Core.Path.{◌≡◌, refl, sym, ap, ◌∙◌}
-use mathlib.Core.Bool.{Bool, true, false, ◌&&◌, ◌||◌, or-false, or-true, and-false}
+use mathlib.Core.Bool.{Bool, true, false, ◌&&◌, ◌||◌, or-true, or-false, and-false}
 use mathlib.Core.List.{List, []}
 use lib.ListN.{length, get_or, set, replicate, length-set, length-replicate, get_or-replicate}
 use lib.Seq.{get_or-set_same, get_or-set_other}
@@ -73,9 +73,6 @@ abbrev pub down : (ℕ → ℕ → Bool) → (ℕ → ℕ → Bool) → ℕ → 
 down f g i a b = f a b || (ltb a i && g a b)
 
 module _ (n : ℕ) (f : ℕ → ℕ → Bool) (p : ℕ → Bool) where
-  pub along-start : (i : ℕ) {m : List (List ℕ)} → Shows n m f → Shows n m (along f p i 0)
-  along-start i s = shows_same (along f p i 0) (λ a b ha hb. rw (le-ltb b 0 (omega arith), and-false (eqb a i), or-false (f a b))) s
-
   along_other : (i j a b : ℕ) → (a ≡ i → b ≡ j → ⊥) → along f p i j a b ≡ along f p i (j + 1) a b
   along_other i j a b h = elim (ℕ_discrete a i) [ yes e ↦ rw (ltb_more b j (λ g. h e g)) | no e ↦ rw (ne_eqb a i e) ]
 
@@ -90,20 +87,16 @@ module _ (n : ℕ) (f : ℕ → ℕ → Bool) (p : ℕ → Bool) where
   along_left i j t s = shows_same (along f p i (j + 1)) (λ a b ha hb. along_skip i j a b t) s
 
 module _ (n : ℕ) (f g : ℕ → ℕ → Bool) where
-  pub down-start : {m : List (List ℕ)} → Shows n m f → Shows n m (down f g 0)
-  down-start s = shows_same (down f g 0) (λ a b ha hb. rw (le-ltb a 0 (omega arith), or-false (f a b))) s
-
-  down-take : (i j a b : ℕ) (p : ℕ → Bool) → b < j → p b ≡ g i b → along (down f g i) p i j a b ≡ down f g (i + 1) a b
-  down-take i j a b p h t =
+  down-take : (i j a b : ℕ) → b < j → along (down f g i) (g i) i j a b ≡ down f g (i + 1) a b
+  down-take i j a b h =
       elim (ℕ_discrete a i) [
-        | yes e ↦ rw (e, eq-eqb i i refl, lt-ltb b j h, le-ltb i i (omega arith), lt-ltb i (i + 1) (omega arith), t, or-false (f i b))
+        | yes e ↦ rw (e, eq-eqb i i refl, lt-ltb b j h, le-ltb i i (omega arith), lt-ltb i (i + 1) (omega arith), or-false (f i b))
         | no e ↦ rw (ne_eqb a i e, or-false (down f g i a b)) (rw (ltb_more a i e))
       ]
 
-  -- row i has been passed whole, by a test that agrees with g
-  pub down_taken : (i j : ℕ) (p : ℕ → Bool) {m : List (List ℕ)} → n ≤ j → ((b : ℕ) → p b ≡ g i b)
-      → Shows n m (along (down f g i) p i j) → Shows n m (down f g (i + 1))
-  down_taken i j p hj t s = shows_same (down f g (i + 1)) (λ a b ha hb. down-take i j a b p (omega arith) (t b)) s
+  -- row i has been passed whole
+  pub down_taken : (i j : ℕ) {m : List (List ℕ)} → n ≤ j → Shows n m (along (down f g i) (g i) i j) → Shows n m (down f g (i + 1))
+  down_taken i j hj s = shows_same (down f g (i + 1)) (λ a b ha hb. down-take i j a b (omega arith)) s
 
   pub down_end : (i : ℕ) {m : List (List ℕ)} → n ≤ i → Shows n m (down f g i) → Shows n m (λ a b. f a b || g a b)
   down_end i h s = shows_same (λ a b. f a b || g a b) (λ a b ha hb. rw (lt-ltb a i (omega arith))) s

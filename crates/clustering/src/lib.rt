@@ -1,38 +1,32 @@
 // Which circles belong together: by the regions that they share, or by how they lie.
-// Circles stand in three lists of one length: their centres' x, their centres' y, their radii. Inks count for the refusal alone.
 #![tactic(auto)]
 
-ghost use Rattle.std.specs.Prelude.{◌≡◌, Bool, false, not, cond, ◌&&◌, ◌||◌, List, ℕ, ◌<◌, ◌≤◌, eqb, ltb, length};
+ghost use Rattle.std.specs.Prelude.{◌≡◌, Bool, false, not, cond, ◌&&◌, ◌||◌, List, ℕ, ◌<◌, ◌≤◌, eqb, ltb, length, IfOk};
 ghost use Rattle.std.specs.Float.Ieee.Scale.{finite};
 ghost use Rattle.scope.specs.Numbers.{◌≤ᶠ◌};
 ghost use Rattle.scope.specs.Runs.{bit};
 ghost use Rattle.scope.specs.PackedRows.{packed_row};
-ghost use Rattle.scope.specs.Links.{regions, circle, overlap, linked_by_regions, linked_by_circles};
+ghost use Rattle.scope.specs.Links.{regions, linked_by_regions, linked_by_circles};
 ghost use Rattle.scope.specs.Tolerance.{tolerance};
 ghost use Rattle.scope.specs.Closure.{Marks, at, closure};
-ghost use Rattle.scope.specs.Groups.{clusters, plain_clusters, clusters_of, refused_grouping, grouping, area_grouping, plain_grouping};
-ghost use Rattle.scope.specs.Twins.{first_grouping};
+ghost use Rattle.scope.specs.Groups.{clusters, plain_clusters, clusters_of, accepted_grouping, area_grouping, plain_grouping};
 ghost use Rattle.laws.proofs.Closure.{Equivalence};
 ghost use Rattle.intake.specs.Limits.{max_circles};
-ghost use Rattle.intake.specs.Columns.{circles_of};
-ghost use Rattle.intake.specs.CauseWords.{bare_front};
 ghost use Rattle.intake.specs.Firsts.{FirstFrom};
-ghost use Rattle.clustering.specs.Answers.{grouped, NumbersByChains, shown_grouping};
-ghost use Rattle.clustering.specs.Table.{Shows, Holds, closed_to, Given};
+ghost use Rattle.clustering.specs.Answers.{grouped, accepted, NumbersByChains};
+ghost use Rattle.clustering.specs.Table.{Row, Shows, Holds, closed_to, Given};
 
-use geometry::lengths::{absolute, apart, meets};
-use intake::causes::{number_of, of_circles, of_count, of_regions};
+use geometry::circle::overlap;
+use geometry::lengths::absolute;
+use intake::checks::{check_circles, check_regions};
 use intake::limits::MAX_CIRCLES;
-use intake::runs::{split, split_array};
+use refusals::Refusal;
 use shapes::circle::Circle;
 use shapes::extremes::maximum;
-use shapes::point::Point;
 
-// A refusal's number or 0, how many clusters there are, and the cluster of each circle. What is not used is 0.
-#[repr(C)]
+// How many clusters there are, and the cluster of each circle. What is not used is 0.
 #[derive(Clone, Copy)]
 pub struct Clusters {
-    pub refusal: u8,
     pub count: usize,
     pub numbers: [u8; MAX_CIRCLES],
 }
@@ -50,41 +44,21 @@ pub fn find_clusters_from_exclusive_regions(
     masks: &[u64],
     areas: &[f64],
     tolerance: f64,
-) -> Clusters
+) -> Result<Clusters, Refusal>
     ensures answer { grouped result ≡ area_grouping n masks.now areas.now tolerance }
-    ensures chains { result.refusal ≡ 0 → NumbersByChains n tolerance (regions masks.now areas.now) result.numbers }
+    ensures chains { IfOk result (λ c. NumbersByChains n tolerance (regions masks.now areas.now) c.numbers) }
 {
-    let refusal = number_of(of_count(n) | of_regions(masks, areas));
-    if refusal != 0 {
-        return refused(refusal);
-    }
-    by_regions(n, masks, areas, tolerance)
+    check_regions(n, masks, areas)?;
+    Ok(by_regions(n, masks, areas, tolerance))
 }
 
-// Circles belong together if their edges cross or one lies inside the other. Only the first n are looked at.
+// Circles belong together if their edges cross or one lies inside the other.
 // Refused: too many circles (1), a centre (3) or a radius (4) out of range, two circles of one ink (14).
-pub fn find_clusters_by_value(circles: [Circle; MAX_CIRCLES], n: usize) -> Clusters
-    ensures { grouped result ≡ first_grouping n circles }
-{
-    let mut xs = [0.0; MAX_CIRCLES];
-    let mut ys = [0.0; MAX_CIRCLES];
-    let mut radii = [0.0; MAX_CIRCLES];
-    let mut inks = [0u16; MAX_CIRCLES];
-    split_array(circles, n, &mut xs, &mut ys, &mut radii, &mut inks);
-    clusters_at(&xs, &ys, &radii, &inks, n)
-}
-
-// The same of a lent run of circles, all of them.
-pub fn find_clusters(circles: &[Circle]) -> Clusters
+pub fn find_clusters(circles: &[Circle]) -> Result<Clusters, Refusal>
     ensures { grouped result ≡ plain_grouping circles.now }
 {
-    let mut xs = [0.0; MAX_CIRCLES];
-    let mut ys = [0.0; MAX_CIRCLES];
-    let mut radii = [0.0; MAX_CIRCLES];
-    let mut inks = [0u16; MAX_CIRCLES];
-    let n = circles.len();
-    split(circles, &mut xs, &mut ys, &mut radii, &mut inks);
-    clusters_at(&xs, &ys, &radii, &inks, n)
+    check_circles(circles)?;
+    Ok(by_circles(circles))
 }
 
 // What is no more than this does not count in a layout: 1e-10 of the largest area, or of 1. Rounding leaves some 1e-12 of the largest where there is no
@@ -92,40 +66,10 @@ pub fn find_clusters(circles: &[Circle]) -> Clusters
 pub fn tolerance(areas: &[f64]) -> f64
     ensures { (masks : List ℕ) → length masks ≡ length areas.now → result ≡ tolerance (regions masks areas.now) }
 {
-    let mut largest = 0.0;
-    let mut k: usize = 0;
-    while k < areas.len() {
-        largest = maximum(largest, absolute(areas[k]));
-        k += 1;
-    }
+    let largest = areas
+        .iter()
+        .fold(0.0, |so_far, &area| maximum(so_far, absolute(area)));
     1e-10 * maximum(largest, 1.0)
-}
-
-// The plain clustering of circles whose numbers stand in the front of four arrays.
-fn clusters_at(
-    xs: &[f64; MAX_CIRCLES],
-    ys: &[f64; MAX_CIRCLES],
-    radii: &[f64; MAX_CIRCLES],
-    inks: &[u16; MAX_CIRCLES],
-    n: usize,
-) -> Clusters
-    ensures { grouped result ≡ shown_grouping n xs.now ys.now radii.now inks.now }
-{
-    let refusal = number_of(of_circles(xs, ys, radii, inks, n));
-    if refusal != 0 {
-        return refused(refusal);
-    }
-    in_front(xs, ys, radii, n)
-}
-
-fn refused(number: u8) -> Clusters
-    ensures { grouped result ≡ refused_grouping number }
-{
-    Clusters {
-        refusal: number,
-        count: 0,
-        numbers: [0u8; MAX_CIRCLES],
-    }
 }
 
 // ---- accepted: links, closure and numbers in turn
@@ -133,7 +77,7 @@ fn refused(number: u8) -> Clusters
 // A region's mask is a packed row, so the links are marked and closed in words, and the table is unpacked once.
 fn by_regions(n: usize, masks: &[u64], areas: &[f64], tolerance: f64) -> Clusters
     requires { (n ≤ max_circles) × (length masks.now ≡ length areas.now) }
-    ensures { grouped result ≡ grouping 0 (clusters n (regions masks.now areas.now) tolerance) }
+    ensures { accepted result ≡ accepted_grouping (clusters n (regions masks.now areas.now) tolerance) }
 {
     let mut rows = [0u64; MAX_CIRCLES];
     hold_selves(&mut rows, n);
@@ -144,21 +88,14 @@ fn by_regions(n: usize, masks: &[u64], areas: &[f64], tolerance: f64) -> Cluster
     numbered(&m, n)
 }
 
-fn in_front(xs: &[f64], ys: &[f64], radii: &[f64], n: usize) -> Clusters
-    requires { (n ≤ max_circles) × (length xs.now ≡ max_circles) × (length ys.now ≡ max_circles) × (length radii.now ≡ max_circles) }
-    ensures { grouped result ≡ grouping 0 (plain_clusters (bare_front n xs.now ys.now radii.now)) }
+fn by_circles(circles: &[Circle]) -> Clusters
+    requires { length circles.now ≤ max_circles }
+    ensures { accepted result ≡ accepted_grouping (plain_clusters circles.now) }
 {
-    by_circles(&xs[0..n], &ys[0..n], &radii[0..n])
-}
-
-fn by_circles(xs: &[f64], ys: &[f64], radii: &[f64]) -> Clusters
-    requires { (length xs.now ≤ max_circles) × (length ys.now ≡ length xs.now) × (length radii.now ≡ length xs.now) }
-    ensures { grouped result ≡ grouping 0 (plain_clusters (circles_of xs.now ys.now radii.now)) }
-{
-    let n = xs.len();
+    let n = circles.len();
     let mut m = [[0u8; MAX_CIRCLES]; MAX_CIRCLES];
     link_selves(&mut m, n);
-    link_circles(&mut m, xs, ys, radii);
+    link_circles(&mut m, circles);
     close(&mut m, n);
     numbered(&m, n)
 }
@@ -170,62 +107,24 @@ fn link_selves(m: &mut Table, n: usize)
     requires { (n ≤ max_circles) × Shows n m.old (λ i j. false) }
     ensures { Shows n m.new eqb }
 {
-    let mut i: usize = 0;
-    while i < n {
+    for i in 0..n {
         m[i][i] = 1;
-        i += 1;
     }
 }
 
 // Whether two circles overlap does not depend on their order, so row i takes what the rows before it have found.
-fn link_circles(m: &mut Table, xs: &[f64], ys: &[f64], radii: &[f64])
-    requires { (length xs.now ≤ max_circles) × (length ys.now ≡ length xs.now) × (length radii.now ≡ length xs.now)
-        × Shows (length xs.now) m.old eqb }
-    ensures { Shows (length xs.now) m.new (linked_by_circles (circles_of xs.now ys.now radii.now)) }
+fn link_circles(m: &mut Table, circles: &[Circle])
+    requires { (length circles.now ≤ max_circles) × Shows (length circles.now) m.old eqb }
+    ensures { Shows (length circles.now) m.new (linked_by_circles circles.now) }
 {
-    let n = xs.len();
-    let mut i: usize = 0;
-    while i < n {
-        let c = at(xs, ys, radii, i);
-        let mut j: usize = 0;
-        while j < n {
-            let linked = if j < i {
-                m[j][i] != 0
-            } else {
-                overlap(c, at(xs, ys, radii, j))
-            };
+    for (i, a) in circles.iter().enumerate() {
+        for (j, b) in circles.iter().enumerate() {
+            let linked = if j < i { m[j][i] != 0 } else { overlap(*a, *b) };
             if linked {
                 m[i][j] = 1;
             }
-            j += 1;
         }
-        i += 1;
     }
-}
-
-// ---- two circles
-
-// The circle at a place of the lists. No step looks at its ink.
-fn at(xs: &[f64], ys: &[f64], radii: &[f64], i: usize) -> Circle
-    requires { (i < length xs.now) × (length ys.now ≡ length xs.now) × (length radii.now ≡ length xs.now) }
-    ensures { result ≡ circle (circles_of xs.now ys.now radii.now) i }
-{
-    Circle {
-        center: Point { x: xs[i], y: ys[i] },
-        radius: radii[i],
-        ink: 0,
-    }
-}
-
-// Whether their edges cross, or one lies inside the other. All by one distance: it is the same from either circle.
-fn overlap(a: Circle, b: Circle) -> bool
-    ensures { result ≡ overlap a b }
-{
-    meets(
-        apart(a.center.x - b.center.x, a.center.y - b.center.y),
-        a.radius,
-        b.radius,
-    )
 }
 
 // ---- links in packed rows
@@ -235,10 +134,8 @@ fn hold_selves(rows: &mut Rows, n: usize)
     requires { (n ≤ max_circles) × Holds n rows.old (λ i j. false) }
     ensures { Holds n rows.new eqb }
 {
-    let mut i: usize = 0;
-    while i < n {
+    for i in 0..n {
         rows[i] = 1u64 << i;
-        i += 1;
     }
 }
 
@@ -247,12 +144,10 @@ fn hold_regions(rows: &mut Rows, n: usize, masks: &[u64], areas: &[f64], toleran
     ensures { Holds n rows.new (linked_by_regions tolerance (regions masks.now areas.now)) }
 {
     let circles = below(n);
-    let mut k: usize = 0;
-    while k < masks.len() {
+    for (k, &mask) in masks.iter().enumerate() {
         if exceeds(areas[k], tolerance) {
-            hold(rows, masks[k] & circles);
+            hold(rows, mask & circles);
         }
-        k += 1;
     }
 }
 
@@ -264,19 +159,16 @@ fn hold(rows: &mut Rows, mask: u64)
     let mut rest = mask;
     while rest != 0 {
         let i = first_of(rest);
-        rows[i] = rows[i] | mask;
+        rows[i] |= mask;
         rest = without_first(rest);
     }
 }
 
-// Finite and not at most the tolerance. An infinity or a NaN less itself is a NaN.
+// Finite and not at most the tolerance, which may be a NaN.
 fn exceeds(area: f64, tolerance: f64) -> bool
     ensures { result ≡ (finite area && not (area ≤ᶠ tolerance)) }
 {
-    if area - area == 0.0 {
-        return !(area <= tolerance);
-    }
-    false
+    area.is_finite() && !(area <= tolerance)
 }
 
 // The row of all circles below n.
@@ -294,10 +186,7 @@ fn below(n: usize) -> u64
 fn first_of(row: u64) -> usize
     ensures { FirstFrom (bit row) 0 max_circles result × ((row ≡ 0 → ⊥) → result < max_circles) }
 {
-    if row == 0 {
-        return MAX_CIRCLES;
-    }
-    u64::trailing_zeros(row) as usize
+    row.trailing_zeros() as usize
 }
 
 // A row without its first place.
@@ -326,10 +215,8 @@ fn close_rows(rows: &mut Rows, n: usize)
     requires { n ≤ max_circles }
     ensures { (t : Marks) → Holds n rows.old (at t) → Holds n rows.new (at (closure n t)) }
 {
-    let mut i: usize = 0;
-    while i < n {
+    for i in 0..n {
         rows[i] = grown(rows, i);
-        i += 1;
     }
 }
 
@@ -345,10 +232,10 @@ fn grown(rows: &Rows, i: usize) -> u64
     while rest != 0 {
         let k = first_of(rest);
         let row = rows[k];
-        all = all | row;
-        joined = joined | (1u64 << k);
+        all |= row;
+        joined |= 1u64 << k;
         if k < i {
-            joined = joined | row;
+            joined |= row;
         }
         rest = other_than(all, joined);
     }
@@ -367,10 +254,8 @@ fn pack(rows: &mut Rows, m: &Table, n: usize)
     requires { (n ≤ max_circles) × (length rows.old ≡ max_circles) }
     ensures { (f : ℕ → ℕ → Bool) → Shows n m.now f → Holds n rows.new f }
 {
-    let mut i: usize = 0;
-    while i < n {
+    for i in 0..n {
         rows[i] = packed(m, n, i);
-        i += 1;
     }
 }
 
@@ -379,18 +264,10 @@ fn packed(m: &Table, n: usize, i: usize) -> u64
     ensures { (f : ℕ → ℕ → Bool) → i < n → Shows n m.now f → result ≡ packed_row n (f i) }
 {
     let mut row: u64 = 0;
-    let mut j: usize = 0;
-    while j < n {
-        row = row | (wide(m[i][j]) << j);
-        j += 1;
+    for j in 0..n {
+        row |= u64::from(m[i][j]) << j;
     }
     row
-}
-
-fn wide(x: u8) -> u64
-    ensures { result ≡ x }
-{
-    x as u64
 }
 
 // Unpacks the first n rows: a mark is 1 where the row holds the place and 0 elsewhere. A row that is the same as that of its first circle is copied from
@@ -399,8 +276,7 @@ fn unpack(m: &mut Table, rows: &Rows, n: usize)
     requires { n ≤ max_circles }
     ensures { (f g : ℕ → ℕ → Bool) → Holds n rows.now f → Shows n m.old g → Shows n m.new f }
 {
-    let mut i: usize = 0;
-    while i < n {
+    for i in 0..n {
         let row = rows[i];
         let first = first_of(row);
         if first + 1 < i && rows[first] == row {
@@ -409,7 +285,6 @@ fn unpack(m: &mut Table, rows: &Rows, n: usize)
         } else {
             unpack_row(m, i, row);
         }
-        i += 1;
     }
 }
 
@@ -432,46 +307,45 @@ fn unpack_row(m: &mut Table, i: usize, row: u64)
 // Numbers the clusters by smallest member: a circle that has no number yet is the smallest of the next cluster.
 fn numbered(m: &Table, n: usize) -> Clusters
     requires { n ≤ max_circles }
-    ensures { (t : Marks) → Shows n m.now (at t) → Equivalence n t → grouped result ≡ grouping 0 (clusters_of n t) }
+    ensures { (t : Marks) → Shows n m.now (at t) → Equivalence n t → accepted result ≡ accepted_grouping (clusters_of n t) }
 {
     let mut count: usize = 0;
-    let mut numbers = [0u8; MAX_CIRCLES];
-    let mut seen = [0u8; MAX_CIRCLES];
-    let mut i: usize = 0;
-    while i < n {
-        if seen[i] == 0 {
-            give(&mut numbers, &mut seen, m, n, i, count as u8);
+    let mut given = Numbers {
+        numbers: [0u8; MAX_CIRCLES],
+        seen: [0u8; MAX_CIRCLES],
+    };
+    for i in 0..n {
+        if given.seen[i] == 0 {
+            given.give(&m[i], n, count as u8);
             count += 1;
         }
-        i += 1;
     }
     Clusters {
-        refusal: 0,
         count,
-        numbers,
+        numbers: given.numbers,
     }
 }
 
-// Gives a number to the circles that are marked in row i. Every place is read and written, so that it is a few wide operations.
-fn give(
-    numbers: &mut [u8; MAX_CIRCLES],
-    seen: &mut [u8; MAX_CIRCLES],
-    m: &Table,
-    n: usize,
-    i: usize,
-    number: u8,
-)
-    requires { (n ≤ max_circles) × (i < n) }
-    ensures { (f : ℕ → ℕ → Bool) → Shows n m.now f
-        → Given n (f i) number numbers.old numbers.new × Given n (f i) 1 seen.old seen.new }
-{
-    let mut j: usize = 0;
-    while j < n {
-        let marked = m[i][j] != 0;
-        let was = numbers[j];
-        let had = seen[j];
-        numbers[j] = if marked { number } else { was };
-        seen[j] = if marked { 1 } else { had };
-        j += 1;
+// The cluster of each circle that has been seen, and 1 for each of these.
+#[derive(Drop)]
+struct Numbers {
+    numbers: [u8; MAX_CIRCLES],
+    seen: [u8; MAX_CIRCLES],
+}
+
+impl Numbers {
+    // Gives a number to the circles that are marked in a row. Every place is read and written, so that it is a few wide operations.
+    fn give(&mut self, row: &[u8; MAX_CIRCLES], n: usize, number: u8)
+        requires { n ≤ max_circles }
+        ensures { (p : ℕ → Bool) → Row n row.now p
+            → Given n p number self.old.numbers self.new.numbers × Given n p 1 self.old.seen self.new.seen }
+    {
+        for j in 0..n {
+            let marked = row[j] != 0;
+            let was = self.numbers[j];
+            let had = self.seen[j];
+            self.numbers[j] = if marked { number } else { was };
+            self.seen[j] = if marked { 1 } else { had };
+        }
     }
 }

@@ -10,79 +10,60 @@ ghost use Rattle.scope.specs.Distance.{
   intersects_answer,
   circle_distance_answer,
 };
-ghost use Rattle.scope.specs.Refusals.{pair_refusal, circle_point_refusal};
-ghost use Rattle.geometry.specs.Answers.{measured, decided};
+ghost use Rattle.scope.specs.Links.{overlap};
+ghost use Rattle.refusals.specs.Numbers.{answer_of};
 
-use crate::lengths::{covers, crossing, within};
-use crate::point::{Measured, raw_distance};
-use intake::causes::{number_of, of_circle_and_point, of_pair};
+use crate::lengths::{apart, covers, crossing, meets, within};
+use crate::point::raw_distance;
+use intake::checks::{check_circle_and_point, check_pair};
+use refusals::Refusal;
 use shapes::circle::Circle;
 use shapes::point::Point;
 
-// Yes or no, or a refusal's number.
-#[derive(Clone, Copy)]
-pub enum Decided {
-    Is(bool),
-    Refused(u8),
-}
-
 // The centres' distance less the sum of the radii, and 0 for circles that touch or overlap.
-pub fn distance(a: Circle, b: Circle) -> Measured
-    ensures { measured result ≡ circle_distance_answer a b }
+pub fn distance(a: Circle, b: Circle) -> Result<f64, Refusal>
+    ensures { answer_of result ≡ circle_distance_answer a b }
 {
-    let refusal = pair_refusal(a, b);
-    if refusal != 0 {
-        return Measured::Refused(refusal);
-    }
-    Measured::Of(raw_circle_distance(a, b))
+    check_pair(a, b)?;
+    Ok(raw_circle_distance(a, b))
 }
 
 // Whether b lies inside a. A circle that touches the edge from inside does.
-pub fn contains(a: Circle, b: Circle) -> Decided
-    ensures { decided result ≡ contains_answer a b }
+pub fn contains(a: Circle, b: Circle) -> Result<bool, Refusal>
+    ensures { answer_of result ≡ contains_answer a b }
 {
-    let refusal = pair_refusal(a, b);
-    if refusal != 0 {
-        return Decided::Refused(refusal);
-    }
-    Decided::Is(raw_contains(a, b))
+    check_pair(a, b)?;
+    Ok(encloses(a, b))
 }
 
 // Whether p lies in c. A point on the edge does.
-pub fn contains_point(c: Circle, p: Point) -> Decided
-    ensures { decided result ≡ contains_point_answer c p }
+pub fn contains_point(c: Circle, p: Point) -> Result<bool, Refusal>
+    ensures { answer_of result ≡ contains_point_answer c p }
 {
-    let refusal = circle_point_refusal(c, p);
-    if refusal != 0 {
-        return Decided::Refused(refusal);
-    }
-    Decided::Is(raw_contains_point(c, p))
+    check_circle_and_point(c, p)?;
+    Ok(raw_contains_point(c, p))
 }
 
 // Whether the edges cross: circles that touch, from outside or from inside, do not intersect.
-pub fn intersects(a: Circle, b: Circle) -> Decided
-    ensures { decided result ≡ intersects_answer a b }
+pub fn intersects(a: Circle, b: Circle) -> Result<bool, Refusal>
+    ensures { answer_of result ≡ intersects_answer a b }
 {
-    let refusal = pair_refusal(a, b);
-    if refusal != 0 {
-        return Decided::Refused(refusal);
-    }
-    Decided::Is(raw_intersects(a, b))
-}
-
-fn pair_refusal(a: Circle, b: Circle) -> u8
-    ensures { result ≡ pair_refusal a b }
-{
-    number_of(of_pair(a, b))
-}
-
-fn circle_point_refusal(c: Circle, p: Point) -> u8
-    ensures { result ≡ circle_point_refusal c p }
-{
-    number_of(of_circle_and_point(c, p))
+    check_pair(a, b)?;
+    Ok(raw_intersects(a, b))
 }
 
 // ---- without the checks
+
+// Whether their edges cross, or one lies inside the other. All by one distance: it is the same from either circle.
+pub fn overlap(a: Circle, b: Circle) -> bool
+    ensures { result ≡ overlap a b }
+{
+    meets(
+        apart(a.center.x - b.center.x, a.center.y - b.center.y),
+        a.radius,
+        b.radius,
+    )
+}
 
 fn raw_circle_distance(a: Circle, b: Circle) -> f64
     ensures { result ≡ circle_distance a b }
@@ -92,7 +73,8 @@ fn raw_circle_distance(a: Circle, b: Circle) -> f64
     if s < d { d - s } else { 0.0 }
 }
 
-fn raw_contains(a: Circle, b: Circle) -> bool
+// Whether b lies inside a. A circle that touches the edge from inside does.
+pub fn encloses(a: Circle, b: Circle) -> bool
     ensures { result ≡ contains a b }
 {
     within(raw_distance(a.center, b.center), b.radius, a.radius)

@@ -6,7 +6,6 @@ ghost use Rattle.scope.specs.Numbers.{◌+ᶠ◌, ◌-ᶠ◌, ◌<ᶠ◌, ◌≤
 ghost use Rattle.scope.specs.Offset.{magnitude};
 ghost use Rattle.geometry.specs.Lengths.{DistanceBy, HoldsBy};
 
-use root::answers::Root;
 use root::hypot::hypot;
 use shapes::circle::Circle;
 
@@ -34,8 +33,8 @@ pub fn root_or_nan(x: f64) -> f64
     ensures { result ≡ root binary64 x }
 {
     match root::root(x) {
-        Root::Of(r) => r,
-        Root::Refused(_) => 0.0 / 0.0,
+        Ok(r) => r,
+        Err(_) => 0.0 / 0.0,
     }
 }
 

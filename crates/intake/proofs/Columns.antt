@@ -1,37 +1,30 @@
 -- The circles that lists of numbers show: their count, each of them, and when they are those of a definition by `tab`; with inks put on. Lists that were changed
 -- number by number.
-use Prim.Native.Nat.{ℕ, suc, ◌≤◌, ◌<◌, min}
-use native.Mathlib.Decide.{dec_lt}
+use Prim.Native.Nat.{ℕ, suc, ◌≤◌, ◌<◌}
 use native.Mathlib.Omega.{arith}
-use mathlib.Core.Path.{◌≡◌, refl, sym, ap, ◌∙◌}
+use mathlib.Core.Path.{◌≡◌, refl, ◌∙◌}
 use mathlib.Core.Logic.{inl, inr, ⊎_elim}
 use mathlib.Core.Bool.{Bool, true, false, not, cond, ◌&&◌, ◌||◌}
 use mathlib.Core.List.{List, append-nil}
-use lib.ListN.{length, get_or, take, drop, length-take}
-use lib.Seq.{take-length, drop-length, length-take-le, drop-cons, get_or_at, take_all, ext_get_or}
+use lib.ListN.{length, get_or, take, drop}
+use lib.Seq.{take-length, drop-length, length-take-le, drop-cons, get_or_at, ext_get_or}
 use lib.Dec.{T}
 use lib.Ieee.{Float, nan}
-use Rattle.shapes.specs.declared.point.Point.{Point}
 use Rattle.shapes.specs.declared.circle.Circle.{Circle}
 use Rattle.shapes.specs.declared.rectangle.Rectangle.{Rectangle}
-use Rattle.shapes.specs.Records.{point_at}
 use Rattle.scope.specs.Numbers.{◌+ᶠ◌}
 use Rattle.scope.specs.Runs.{tab, any}
-use Rattle.scope.specs.Limits.{coordinate_ok, radius_ok}
 use Rattle.scope.specs.Links.{circle, nowhere}
-use Rattle.scope.specs.Refusals.{bad_point, bad_centre, bad_radius, repeated, inks, same_ink}
+use Rattle.scope.specs.Refusals.{inks}
 use Rattle.scope.specs.Packing.{rectangle}
 use Rattle.scope.specs.Offset.{translated}
 use Rattle.scope.specs.Centring.{all_translated}
-use Rattle.laws.specs.Inks.{with_ink, inked}
-use Rattle.laws.specs.Touch.{no_point, point_in}
+use Rattle.laws.specs.Inks.{inked}
 use Rattle.laws.proofs.Accepted.{ink_at_lem}
-use Rattle.laws.proofs.Inks.{length-inked, inked_at, inks-inked}
+use Rattle.laws.proofs.Inks.{length-inked, inked_at}
 use Rattle.laws.proofs.Cases.{or_iff, same_test}
 use Rattle.laws.proofs.Runs.{length-tab, get_or_tab, tab_equal, any_at}
-use Rattle.intake.specs.Limits.{max_circles}
-use Rattle.intake.specs.Columns.{at, bare_circle, circles_of, xs_of, ys_of, radii_of, widths_of, heights_of, across_of, up_of, points_of, each, members, Lifted}
-use Rattle.intake.specs.CauseWords.{bare_front, front}
+use Rattle.intake.specs.Columns.{at, bare_circle, circles_of, xs_of, ys_of, radii_of, widths_of, heights_of, each, members, Lifted}
 use Rattle.intake.proofs.InPlace.{so_far, rewritten, all_rewritten}
 
 -- ---- a loop over a whole list that writes each element anew: its end, and what it has not come to yet
@@ -111,32 +104,6 @@ pub height_at_lem : (rects : List Rectangle) (i : ℕ) → i < length rects → 
 unfolding heights_of
 height_at_lem rects i h = get_or_tab (length rects) (λ k. (rectangle rects k).height) i nan h
 
--- ---- the lists of a run of points
-pub length-across : (ps : List Point) → length (across_of ps) ≡ length ps
-unfolding across_of
-length-across ps = length-tab (length ps) (λ i. (point_in ps i).x)
-
-pub length_up : (ps : List Point) → length (up_of ps) ≡ length ps
-unfolding up_of
-length_up ps = length-tab (length ps) (λ i. (point_in ps i).y)
-
-pub across_at : (ps : List Point) (i : ℕ) → i < length ps → at (across_of ps) i ≡ (point_in ps i).x
-unfolding across_of
-across_at ps i h = get_or_tab (length ps) (λ k. (point_in ps k).x) i nan h
-
-pub up_at : (ps : List Point) (i : ℕ) → i < length ps → at (up_of ps) i ≡ (point_in ps i).y
-unfolding up_of
-up_at ps i h = get_or_tab (length ps) (λ k. (point_in ps k).y) i nan h
-
--- a run is shown by its two lists
-pub points-back : (ps : List Point) → points_of (across_of ps) (up_of ps) ≡ ps
-unfolding points_of
-points-back ps =
-    let long : length (tab (length (across_of ps)) (λ i. point_at (at (across_of ps) i) (at (up_of ps) i))) ≡ length ps = length-tab _ _ ∙ length-across ps in
-    ext_get_or no_point _ ps long (λ i h.
-    let below : i < length ps = rw long at h in
-    get_or_tab _ (λ k. point_at (at (across_of ps) k) (at (up_of ps) k)) i no_point (rw (length-across ps) below) ∙ rw (across_at ps i below, up_at ps i below))
-
 -- ---- lists changed at a cluster's members
 pub length-members : (member : ℕ → Bool) (f : ℕ → Float → Float) (l : List Float) → length (members member f l) ≡ length l
 length-members member f l = length-tab (length l) (λ i. cond (member i) (f i (at l i)) (at l i))
@@ -154,23 +121,6 @@ translated_shown xs ys rs dx dy e lifted =
     (λ i h. rw (shown_at xs ys rs i h, lifted i, get_or_tab (length xs) (λ k. at xs k +ᶠ dx) i nan h, get_or_tab (length ys) (λ k. at ys k +ᶠ dy) i nan (rw e h))))
 
 -- ---- tests of the circles, list by list
--- what fails at the same places of two lists
-any_same : {A B : Type 0} (p : A → Bool) (q : B → Bool) (l : List A) (m : List B) (d : A) (e : B) → length l ≡ length m
-    → ((i : ℕ) → i < length m → p (get_or l i d) ≡ q (get_or m i e)) → any p l ≡ any q m
-any_same p q l m d e long same =
-    same_test _ _ (
-      λ t.
-          let f = (any_at p l d).0 t in
-          let below : f.0 < length m = rw long at f.1 in
-          (any_at q m e).1 (f.0, below, rw (same f.0 below) at f.2),
-      λ t. let f = (any_at q m e).0 t in (any_at p l d).1 (f.0, rw long f.1, rw (same f.0 f.1) f.2),
-    )
-
--- a test that does not look at the ink
-any-inked : (p : Circle → Bool) (blind : (k : ℕ) (c : Circle) → p (with_ink k c) ≡ p c) (is : List ℕ) (cs : List Circle) → any p (inked is cs) ≡ any p cs
-any-inked p blind is cs =
-    any_same p p (inked is cs) cs nowhere nowhere (length-inked is cs) (λ i h. ap p (inked_at is cs i h) ∙ blind (get_or is i 0) (circle cs i))
-
 -- a record fails if either of two numbers does: one of the records fails exactly if a number of either list does
 pub any-either : {A : Type 0} (p : A → Bool) (q : Float → Bool) (l : List A) (d : A) (xs ys : List Float) → length l ≡ length xs → length ys ≡ length xs
     → ((i : ℕ) → i < length xs → p (get_or l i d) ≡ q (at xs i) || q (at ys i)) → any p l ≡ any q xs || any q ys
@@ -194,48 +144,3 @@ any-either p q l d xs ys e f same =
 pub not_both : (a b : Bool) → not (a && b) ≡ not a || not b
 not_both true b = refl
 not_both false b = refl
-
-module _ (xs ys rs : List Float) where
-  any_centre : length ys ≡ length xs → any bad_centre (circles_of xs ys rs) ≡ any (λ x. not (coordinate_ok x)) xs || any (λ y. not (coordinate_ok y)) ys
-  unfolding bad_centre bad_point
-  any_centre e =
-      any-either bad_centre (λ x. not (coordinate_ok x)) (circles_of xs ys rs) nowhere xs ys (length_shown xs ys rs) e
-      (λ i h. rw (shown_at xs ys rs i h) (not_both (coordinate_ok (at xs i)) (coordinate_ok (at ys i))))
-
-  any-radius : length rs ≡ length xs → any bad_radius (circles_of xs ys rs) ≡ any (λ r. not (radius_ok r)) rs
-  unfolding bad_radius
-  any-radius e =
-      any_same bad_radius (λ r. not (radius_ok r)) (circles_of xs ys rs) rs nowhere nan (length_shown xs ys rs ∙ sym e)
-      (λ i h. let below : i < length xs = rw e at h in rw (shown_at xs ys rs i below))
-
--- ---- as many as there is room for, of an array that has no more
-pub take-room : {A : Type 0} (n m w : ℕ) (l : List A) → length l ≡ w → m ≡ min n w → take m l ≡ take n l
-take-room n m w l e room =
-    elim (dec_lt n w) [
-      | yes h ↦ let same : m ≡ n = omega arith in rw same
-      | no h ↦ take_all m l (omega arith) ∙ sym (take_all n l (omega arith))
-    ]
-
--- ---- the circles in the front of four arrays
-module _ (n m : ℕ) (xs ys rs : List Float) (is : List ℕ) (x : length xs ≡ max_circles) (y : length ys ≡ max_circles) (r : length rs ≡ max_circles)
-    (k : length is ≡ max_circles) (room : m ≡ min n max_circles) where
-  same_front : {A B : Type 0} (l : List A) (j : List B) → length l ≡ max_circles → length j ≡ max_circles → length (take n l) ≡ length (take n j)
-  same_front l j e f = length-take n l ∙ ap (min n) (e ∙ sym f) ∙ sym (length-take n j)
-
-  pub front_centre : any bad_centre (front n xs ys rs is) ≡ any (λ v. not (coordinate_ok v)) (take m xs) || any (λ v. not (coordinate_ok v)) (take m ys)
-  unfolding bad_centre
-  front_centre =
-      any-inked bad_centre (λ _ _. refl) (take n is) (bare_front n xs ys rs) ∙ any_centre (take n xs) (take n ys) (take n rs) (same_front ys xs y x)
-      ∙ rw (take-room n m max_circles xs x room, take-room n m max_circles ys y room)
-
-  pub front-radius : any bad_radius (front n xs ys rs is) ≡ any (λ v. not (radius_ok v)) (take m rs)
-  unfolding bad_radius
-  front-radius =
-      any-inked bad_radius (λ _ _. refl) (take n is) (bare_front n xs ys rs) ∙ any-radius (take n xs) (take n ys) (take n rs) (same_front rs xs r x)
-      ∙ rw (take-room n m max_circles rs r room)
-
-  pub front-inks : same_ink (front n xs ys rs is) ≡ repeated (take m is)
-  unfolding same_ink
-  front-inks =
-      ap repeated (inks-inked (take n is) (bare_front n xs ys rs) (same_front is xs k x ∙ sym (length_shown (take n xs) (take n ys) (take n rs)))
-      ∙ sym (take-room n m max_circles is k room))

@@ -1,10 +1,9 @@
 pub mod Beyond
 pub mod TrailingZeros
-pub mod Rising
 pub mod Overwriting
 pub mod InPlace
-pub mod SoFar
 pub mod Columns
 pub mod CauseWords
-pub mod Turns
-pub mod Splitting
+pub mod Checked
+pub mod Listed
+pub mod Filling

@@ -2,15 +2,13 @@
 -- No step looks at an ink, so there the circles stand with ink 0; their inks are a fourth list, which is put on again at the end.
 use Rattle.std.specs.Prelude.{ℕ, ◌≡◌, Bool, cond, List, ◌++◌, get_or, length, drop, Float}
 use Rattle.std.specs.Float.{nan}
-use Rattle.shapes.specs.declared.point.Point.{Point}
 use Rattle.shapes.specs.declared.circle.Circle.{Circle}
 use Rattle.shapes.specs.declared.rectangle.Rectangle.{Rectangle}
-use Rattle.shapes.specs.Records.{point_at, circle_of}
+use Rattle.shapes.specs.Records.{circle_of}
 use Rattle.shapes.specs.Lift.{lift}
 use Rattle.scope.specs.Runs.{tab}
 use Rattle.scope.specs.Links.{circle}
 use Rattle.scope.specs.Packing.{rectangle}
-use Rattle.laws.specs.Touch.{point_in}
 
 -- the number at a place of a list; past the end, a NaN
 abbrev pub at : List Float → ℕ → Float
@@ -40,16 +38,6 @@ widths_of rects = tab (length rects) (λ i. (rectangle rects i).width)
 
 unfoldable pub heights_of : List Rectangle → List Float
 heights_of rects = tab (length rects) (λ i. (rectangle rects i).height)
-
--- the lists of a run of points, and the points that lists show
-unfoldable pub across_of : List Point → List Float
-across_of ps = tab (length ps) (λ i. (point_in ps i).x)
-
-unfoldable pub up_of : List Point → List Float
-up_of ps = tab (length ps) (λ i. (point_in ps i).y)
-
-unfoldable pub points_of : List Float → List Float → List Point
-points_of xs ys = tab (length xs) (λ i. point_at (at xs i) (at ys i))
 
 -- every number changed by f, which knows its place
 abbrev pub each : (ℕ → Float → Float) → List Float → List Float

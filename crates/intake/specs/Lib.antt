@@ -2,5 +2,4 @@ pub mod Firsts
 pub mod Limits
 pub mod Blanks
 pub mod Columns
-pub mod Splits
 pub mod CauseWords

@@ -2,7 +2,7 @@
 ghost use Rattle.std.specs.Prelude.{◌≡◌, min};
 ghost use Rattle.scope.specs.Limits.{coordinate_ok, side_ok};
 ghost use Rattle.scope.specs.Refusals.{too_many, too_many_regions, too_many_points, bad_point, bad_centre, bad_radius, bad_factor, bad_side, bad_padding, bad_proportion, bad_price};
-ghost use Rattle.intake.specs.Limits.{max_circles, max_points};
+ghost use Rattle.intake.specs.Limits.{max_circles};
 
 use shapes::circle::Circle;
 use shapes::point::Point;
@@ -39,13 +39,6 @@ pub fn room(n: usize) -> usize
     ensures { result ≡ min n max_circles }
 {
     if n < MAX_CIRCLES { n } else { MAX_CIRCLES }
-}
-
-// The smaller of m and 1,024.
-pub(crate) fn point_room(m: usize) -> usize
-    ensures { result ≡ min m max_points }
-{
-    if m < MAX_POINTS { m } else { MAX_POINTS }
 }
 
 // Refusal 1.
@@ -96,7 +89,7 @@ fn coordinate_in_range(x: f64) -> bool
 }
 
 // Refusal 6.
-pub(crate) fn bad_factor(x: f64) -> bool
+pub fn bad_factor(x: f64) -> bool
     ensures { result ≡ bad_factor x }
 {
     !(0.0 <= x && x <= 1.0)
@@ -109,28 +102,28 @@ pub(crate) fn bad_side(r: Rectangle) -> bool
     !(side_in_range(r.width) && side_in_range(r.height))
 }
 
-fn side_in_range(x: f64) -> bool
+pub(crate) fn side_in_range(x: f64) -> bool
     ensures { result ≡ side_ok x }
 {
     0.0 <= x && x <= MAX_SIDE
 }
 
 // Refusal 8.
-pub(crate) fn bad_padding(x: f64) -> bool
+pub fn bad_padding(x: f64) -> bool
     ensures { result ≡ bad_padding x }
 {
     !(0.0 <= x && x <= MAX_PADDING)
 }
 
 // Refusal 16.
-pub(crate) fn bad_proportion(x: f64) -> bool
+pub fn bad_proportion(x: f64) -> bool
     ensures { result ≡ bad_proportion x }
 {
     !(MIN_PROPORTION <= x && x <= MAX_PROPORTION)
 }
 
 // Refusal 17.
-pub(crate) fn bad_price(cents: u64) -> bool
+pub fn bad_price(cents: u64) -> bool
     ensures { result ≡ bad_price cents }
 {
     !(1 <= cents && cents <= MAX_PRICE)

@@ -1,19 +1,21 @@
 -- The parent of a contained child: the one circle of a mask, if the child has no region of its own and is smaller by total. The list of all parents' numbers.
-use Prim.Native.Nat.{ℕ, ◌+◌, ◌^◌, ◌≤◌, ◌<◌}
+use Prim.Native.Nat.{ℕ, zero, suc, ◌+◌, ◌^◌, ◌≤◌, ◌<◌}
 use native.Mathlib.Omega.{arith}
 use native.Mathlib.Numerals.{add-one}
 use native.Mathlib.Decide.{ℕ_discrete}
 use mathlib.Core.Path.{◌≡◌, refl, sym, ap, ◌∙◌}
 use mathlib.Core.Logic.{inr, ⊎_elim}
-use mathlib.Core.Bool.{Bool, true, false, not, ◌&&◌, cond}
+use mathlib.Core.Bool.{Bool, true, false, not, ◌&&◌, ◌||◌, cond, false≢true}
 use mathlib.Core.List.{List}
 use mathlib.Core.Option.{Option, none, some}
 use lib.Count.{count_trailing_zeros}
 use lib.Dec.{eqb, ltb}
 use lib.Ieee.{Float}
-use lib.ListN.{length, get_or, set}
+use lib.ListN.{length, get_or, set, take}
 use lib.Pow.{pow-lt}
-use lib.Seq.{get_or-set_same, get_or-set_other}
+use lib.Seq.{get_or-set_same, get_or-set_other, take-length}
+use Rattle.std.specs.List.{count_by}
+use Rattle.std.proofs.lemmas.List.Sums.{count_by_more_yes, count_by_more_no}
 use borrow.Author.Tests.{lt-ltb, le-ltb, eq-eqb, ne_eqb}
 use Rattle.scope.specs.Numbers.{◌<ᶠ◌}
 use Rattle.scope.specs.Runs.{least, many}
@@ -23,7 +25,10 @@ use Rattle.scope.specs.Offset.{area_with_mask, other_bits, contained_child_paren
 use Rattle.laws.proofs.Cases.{eqb_iff}
 use Rattle.laws.proofs.Regions.{length-regions}
 use Rattle.laws.proofs.Runs.{least_at, least-none, length-tab, get_or_tab, many_equal}
-use Rattle.layout.specs.Offsets.{numbered, parent_at, ParentsOf}
+use Rattle.std.specs.Prelude as prelude
+use Rattle.std.specs.Prelude.{IfSome, is_some}
+use Rattle.std.specs.Option.{unwrap_or}
+use Rattle.layout.specs.Offsets.{numbered, maybe, parent_at, ParentsOf}
 use Rattle.intake.proofs.TrailingZeros.{zeros_below}
 use Rattle.layout.proofs.LoneBits.{never_more}
 use Rattle.layout.proofs.RegionFolds.{gathered, join_others}
@@ -69,42 +74,56 @@ pub numbered_past : (n p : ℕ) → n ≤ p → numbered n p ≡ none
 unfolding numbered
 numbered_past n p h = rw (le-ltb p n h)
 
+-- the answers say whose number stands for them in a list
+pub numbered_maybe : (n : ℕ) (p : prelude.Option ℕ) → IfSome p (λ q. q < n) → numbered n (unwrap_or p n) ≡ maybe p
+numbered_maybe n (prelude.Some q) h = numbered_below n q h
+numbered_maybe n prelude.None h = numbered_past n n (omega arith)
+
+pub no-answer : (p : prelude.Option ℕ) → is_some p ≡ false → maybe p ≡ none
+no-answer (prelude.Some q) e = absurd (false≢true (sym e))
+no-answer prelude.None e = refl
+
 module _ (n : ℕ) (rs : List Region) (tol : Float) (i p : ℕ) (is : p ≡ alone n (other_bits tol rs i)) where
-  pub no_partner : n ≤ p → numbered n n ≡ contained_child_parent n rs tol i
+  pub no_partner : n ≤ p → none ≡ contained_child_parent n rs tol i
   unfolding contained_child_parent
-  no_partner h = rw (numbered_past n n (omega arith), ← is, le-ltb p n h) (either_way (not (tol <ᶠ area_with_mask (2 ^ i) rs)))
+  no_partner h = rw (← is, le-ltb p n h) (either_way (not (tol <ᶠ area_with_mask (2 ^ i) rs)))
     where
       either_way : (b : Bool) → none ≡ cond (b && false) (some p) none
       either_way true = refl
       either_way false = refl
 
-  pub own_region : tol <ᶠ area_with_mask (2 ^ i) rs ≡ true → numbered n n ≡ contained_child_parent n rs tol i
+  pub own_region : tol <ᶠ area_with_mask (2 ^ i) rs ≡ true → none ≡ contained_child_parent n rs tol i
   unfolding contained_child_parent
-  own_region h = rw (numbered_past n n (omega arith), h)
+  own_region h = rw h
 
-  pub partner_is_parent : p < n → tol <ᶠ area_with_mask (2 ^ i) rs ≡ false → numbered n p ≡ contained_child_parent n rs tol i
+  pub partner_is_parent : p < n → tol <ᶠ area_with_mask (2 ^ i) rs ≡ false → some p ≡ contained_child_parent n rs tol i
   unfolding contained_child_parent
-  partner_is_parent l h = rw (numbered_below n p l, h, ← is, lt-ltb p n l)
+  partner_is_parent l h = rw (h, ← is, lt-ltb p n l)
 
 -- of two circles, the smaller is the child
-module _ (n : ℕ) (rs : List Region) (i p : ℕ) (o : Option ℕ) (is : numbered n p ≡ o) where
-  pub none-smaller : n ≤ p → numbered n n ≡ if_smaller rs i o
-  unfolding if_smaller
-  none-smaller h = rw (← is, numbered_past n p h, numbered_past n n (omega arith))
+pub none-smaller : (rs : List Region) (i : ℕ) (o : Option ℕ) → none ≡ o → none ≡ if_smaller rs i o
+unfolding if_smaller
+none-smaller rs i o is = rw (← is)
 
-  pub child-smaller : p < n → smaller rs i p ≡ true → numbered n p ≡ if_smaller rs i o
+module _ (rs : List Region) (i p : ℕ) (o : Option ℕ) (is : some p ≡ o) where
+  pub child-smaller : smaller rs i p ≡ true → some p ≡ if_smaller rs i o
   unfolding if_smaller
-  child-smaller l h = rw (← is, numbered_below n p l, h)
+  child-smaller h = rw (← is, h)
 
-  pub child_not_smaller : p < n → smaller rs i p ≡ false → numbered n n ≡ if_smaller rs i o
+  pub child_not_smaller : smaller rs i p ≡ false → none ≡ if_smaller rs i o
   unfolding if_smaller
-  child_not_smaller l h = rw (← is, numbered_below n p l, numbered_past n n (omega arith), h)
+  child_not_smaller h = rw (← is, h)
 
 pub at_tolerance : (n : ℕ) (rs : List Region) (tol : Float) (i : ℕ) → tol ≡ tolerance rs → if_smaller rs i (contained_child_parent n rs tol i) ≡ parent_of n rs i
 unfolding parent_of
 at_tolerance n rs tol i e = rw e
 
 -- ---- the list of parents' numbers
+
+-- neither of two tests holds
+pub neither : (b d : Bool) → b || d ≡ false → (b ≡ false) × (d ≡ false)
+neither false d e = (refl, e)
+neither true d e = absurd (false≢true (sym e))
 
 -- what holds of the numbers below i, and of the one that is put at i, holds below i + 1
 pub one_more-number : (P : ℕ → ℕ → Type 0) (ps : List ℕ) (i p : ℕ) → i < length ps → ((j : ℕ) → j < i → P j (get_or ps j 0)) → P i p
@@ -113,16 +132,6 @@ one_more-number P ps i p h before here j l = elim (ℕ_discrete j i) [
   | yes e ↦ rw (e, get_or-set_same ps i p 0 h) here
   | no e ↦ rw (get_or-set_other ps i j p 0 e) (before j (omega arith))
 ]
-
--- children counted, one circle more
-module _ (p : ℕ → Bool) (i count : ℕ) (s : count ≡ many i p) where
-  pub many_more : p i ≡ true → count + 1 ≡ many (i + 1) p
-  unfolding many
-  many_more t = rw (add-one i, t) (omega arith)
-
-  pub many_as_before : p i ≡ false → count ≡ many (i + 1) p
-  unfolding many
-  many_as_before t = rw (add-one i, t) s
 
 -- whether a number is p's
 module _ (n p q : ℕ) (inside : p < n) where
@@ -137,6 +146,31 @@ module _ (n p q : ℕ) (inside : p < n) where
       go : (b : Bool) → is_parent p (cond b (some q) none) ≡ false
       go true = ne_eqb p q (λ e. f (sym e))
       go false = refl
+
+  -- either way
+  parent_test : eqb q p ≡ is_parent p (numbered n q)
+  parent_test =
+      elim (ℕ_discrete q p) [
+        | yes e ↦ eq-eqb q p e ∙ sym (is_its_parent e)
+        | no e ↦ ne_eqb q p e ∙ sym (is_not_its_parent e)
+      ]
+
+-- the numbers of a list's front that pass, counted
+counted : (f : ℕ → Bool) (ps : List ℕ) (i : ℕ) → i ≤ length ps → count_by f (take i ps) ≡ many i (λ j. f (get_or ps j 0))
+unfolding many
+counted f ps zero h = refl
+counted f ps (suc i) h = one_more (f (get_or ps i 0)) refl (counted f ps i (omega arith))
+  where
+    one_more : (b : Bool) → f (get_or ps i 0) ≡ b → count_by f (take i ps) ≡ many i (λ j. f (get_or ps j 0))
+        → count_by f (take (suc i) ps) ≡ cond b (suc (many i (λ j. f (get_or ps j 0)))) (many i (λ j. f (get_or ps j 0)))
+    one_more true e before = let more = rw (add-one i) at (count_by_more_yes f ps i 0 (omega arith) e) in omega (arith, more, before)
+    one_more false e before = rw (add-one i) at (count_by_more_no f ps i 0 (omega arith) e) ∙ before
+
+pub children_counted : (p : ℕ) (ps : List ℕ) → p < length ps
+    → count_by (λ q. eqb q p) ps ≡ many (length ps) (λ i. is_parent p (parent_at (length ps) ps i))
+children_counted p ps h =
+    rw (take-length ps) at (counted (λ q. eqb q p) ps (length ps) (omega arith))
+    ∙ many_equal (length ps) _ _ (λ i b. parent_test (length ps) p (get_or ps i 0) h)
 
 pub only_child_lem : (n : ℕ) (rs : List Region) (ps : List ℕ) → ParentsOf n rs ps → (p : ℕ) → eqb (many n (λ i. is_parent p (parent_at n ps i))) 1 ≡ only_child (parents n rs) p
 unfolding only_child parents

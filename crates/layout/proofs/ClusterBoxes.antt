@@ -1,12 +1,12 @@
 -- The boxes of the clusters as lists of numbers: ranges of all clusters in one pass, and what the middles, lengths, padding and shift made of them stand for.
-use Prim.Native.Nat.{ℕ, ◌+◌, ◌≤◌, ◌<◌}
+use Prim.Native.Nat.{ℕ, zero, suc, ◌+◌, ◌≤◌, ◌<◌}
 use native.Mathlib.Numerals.{add-one}
 use native.Mathlib.Decide.{ℕ_discrete}
 use mathlib.Core.Path.{◌≡◌, refl, sym, ap, ◌∙◌}
 use mathlib.Core.Bool.{cond}
-use mathlib.Core.List.{List}
+use mathlib.Core.List.{List, ◌∷◌}
 use lib.Dec.{ltb}
-use lib.ListN.{length, get_or, set, length-set}
+use lib.ListN.{length, get_or, set, length-set, replicate}
 use lib.Seq.{ext_get_or, get_or-set_same, get_or-set_other}
 use lib.Ieee.{Float, nan, binary64}
 use borrow.Author.Tests.{lt-ltb, le-ltb}
@@ -23,7 +23,7 @@ use Rattle.scope.specs.Packing.{no_rectangle, rectangle, rectangle_area, packed}
 use Rattle.scope.specs.Padding.{as_rectangle, boxes, padding, shift, shifted, pack_clusters}
 use Rattle.laws.proofs.Runs.{length-tab, get_or_tab, tab_equal, gather-takes, gather-leaves, gather_equal}
 use Rattle.laws.proofs.Cases.{eqb_iff}
-use Rattle.intake.specs.Columns.{at, circles_of, each, Lifted, widths_of, heights_of}
+use Rattle.intake.specs.Columns.{at, circles_of, Lifted, widths_of, heights_of}
 use Rattle.intake.proofs.Columns.{length_shown, shown_at, shown_equal}
 use Rattle.layout.specs.Ranges.{range_of, middle_of}
 use Rattle.packing.specs.Sides.{centre_xs, centre_ys}
@@ -32,14 +32,19 @@ use Rattle.layout.proofs.Ranges.{circles-box}
 
 -- ---- one circle more in the ranges of all clusters: its cluster's end is changed, and no other
 
+constant : (n : ℕ) (z : Float) → replicate n z ≡ tab n (λ _. z)
+unfolding tab
+constant zero z = refl
+constant (suc n) z = ap {B = List Float} (λ l. z ∷ l) (constant n z)
+
 module _ (op : Float → Float → Float) (z : Float) (numbers : List ℕ) (count : ℕ) (f : ℕ → Float) where
   -- an end of each cluster's range, after i circles
   abbrev pub ends_after : ℕ → List Float
   ends_after i = tab count (λ a. gather op z (in_cluster numbers a) i f)
 
-  pub ends-at_first : (l : List Float) → length l ≡ count → each (λ _ _. z) l ≡ ends_after 0
+  pub ends-at_first : replicate count z ≡ ends_after 0
   unfolding gather
-  ends-at_first l e = rw e
+  ends-at_first = constant count z
 
   pub ends_next : (i : ℕ) {l : List Float} → get_or numbers i 0 < count → l ≡ ends_after i
       → set l (get_or numbers i 0) (op (at l (get_or numbers i 0)) (f i)) ≡ ends_after (i + 1)

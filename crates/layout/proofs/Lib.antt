@@ -1,6 +1,7 @@
 pub mod Lengths
 pub mod MaskShifts
 pub mod LoneBits
+pub mod Pairs
 pub mod RegionFolds
 pub mod ChildParents
 pub mod OffsetSearch
@@ -10,11 +11,6 @@ pub mod Members
 pub mod Gauged
 pub mod Settled
 pub mod ClusterBoxes
-pub mod Recentred
-pub mod Answered
-pub mod RunCalls
-pub mod ArrayCalls
 pub mod PackedClusters
 pub mod WholeSteps
-pub mod FrontLayouts
-pub mod FrontContained
+pub mod Joined

@@ -7,29 +7,27 @@ use mathlib.Core.Path.{◌≡◌, refl, sym, ap, ◌∙◌}
 use mathlib.Core.Bool.{Bool, true, false, not, ◌&&◌, ◌||◌, cond}
 use mathlib.Core.List.{List}
 use mathlib.Core.Option.{Option, none, some}
-use lib.Dec.{T, eqb}
+use lib.Dec.{eqb}
 use lib.Ieee.{Float, nan}
-use lib.ListN.{length, get_or, set, length-set}
-use lib.Seq.{get_or-set_same, get_or-set_other, ext_get_or}
+use lib.ListN.{length, get_or, set, take, length-set}
+use lib.Seq.{get_or-set_same, get_or-set_other, ext_get_or, take_all}
+use Rattle.std.proofs.Common.{zero-add}
+use Rattle.std.specs.List.{list_any, range_with_len}
+use Rattle.std.proofs.lemmas.List.Folds.{list_any_more}
+use Rattle.std.proofs.lemmas.List.FromFn.{length-range_with_len, get_or-range_with_len}
 use borrow.Author.Tests.{lt-ltb, le-ltb}
 use Rattle.shapes.specs.declared.point.Point.{Point}
 use Rattle.shapes.specs.declared.circle.Circle.{Circle}
 use Rattle.shapes.specs.Lift.{lift}
 use Rattle.scope.specs.Numbers.{◌*ᶠ◌, ◌≤ᶠ◌, nought, half}
-use Rattle.scope.specs.Runs.{in_turn}
+use Rattle.scope.specs.Runs.{in_turn, some_below}
 use Rattle.scope.specs.Distance.{contains}
 use Rattle.scope.specs.Links.{Region, circle, nowhere, overlap}
 use Rattle.scope.specs.Offset.{parent_of, parents, only_child, translated, move, child_at, max_contained_offset, direction, blocked, there, repositioned, Moved, replaced, tried, offset}
 use Rattle.intake.specs.Columns.{at, circles_of, Lifted}
 use Rattle.intake.proofs.Columns.{length_shown, shown_at}
-use Rattle.laws.proofs.Cases.{is_true, is_false}
-use Rattle.laws.proofs.Runs.{NoneBelow, some_below_iff, passes-below, get_or_tab}
-use Rattle.layout.specs.declared.offset.Repositioned.{Repositioned}
-use Rattle.layout.specs.declared.offset.Repositioned.TheVariants as child
-use Rattle.layout.specs.Offsets.{moved, parent_at, ParentsOf, moment}
-
-pub not_held : (b : Bool) → b ≡ false → ¬ T b
-not_held b e = rw e (λ t. t)
+use Rattle.laws.proofs.Runs.{get_or_tab}
+use Rattle.layout.specs.Offsets.{parent_at, ParentsOf, moment}
 
 -- ---- what is in the way, and the moved child
 
@@ -37,14 +35,20 @@ not_held b e = rw e (λ t. t)
 abbrev pub barred : List Circle → ℕ → ℕ → Circle → ℕ → Bool
 barred cs p i c k = not (eqb k i) && not (eqb k p) && overlap c (circle cs k)
 
-module _ (cs : List Circle) (p i : ℕ) where
-  pub way_barred : (c : Circle) (k : ℕ) → k < length cs → barred cs p i c k ≡ true → true ≡ blocked cs p i c
-  unfolding blocked
-  way_barred c k h t = sym (is_true _ (passes-below (length cs) (barred cs p i c) k h (rw t tt)))
+-- the tests of the first i numbers, one more at a time
+any_first : (f : ℕ → Bool) (n i : ℕ) → i ≤ n → list_any f (take i (range_with_len 0 n)) ≡ some_below i f
+unfolding some_below
+any_first f n zero h = refl
+any_first f n (suc i) h =
+    rw (add-one i) at (list_any_more f (range_with_len 0 n) i 0 (rw (length-range_with_len 0 n) h))
+    ∙ rw (any_first f n i (omega arith), get_or-range_with_len 0 n i 0 (omega arith), zero-add i)
 
-  pub way_free : (c : Circle) → NoneBelow (length cs) (barred cs p i c) → false ≡ blocked cs p i c
+module _ (cs : List Circle) (p i : ℕ) where
+  pub any_barred : (c : Circle) (n : ℕ) → n ≡ length cs → list_any (barred cs p i c) (range_with_len 0 n) ≡ blocked cs p i c
   unfolding blocked
-  way_free c f = sym (is_false _ (λ u. let e = (some_below_iff (length cs) (barred cs p i c)).0 u in f e.0 e.1 e.2))
+  any_barred c n e =
+      sym (ap (list_any (barred cs p i c)) (take_all n (range_with_len 0 n) (omega (arith, length-range_with_len 0 n))))
+      ∙ any_first (barred cs p i c) n n (omega arith) ∙ ap (λ (m : ℕ). some_below m (barred cs p i c)) e
 
   -- the definition at what the code has worked out
   module _ (parent small : Circle) (a : parent ≡ circle cs p) (b : small ≡ circle cs i) (u : Point) (dMax : Float) (d : u ≡ direction parent small) (e : dMax ≡ max_contained_offset parent small u) where
@@ -86,13 +90,6 @@ module _ (xs ys rs : List Float) (i : ℕ) (c : Circle) (long : length ys ≡ le
             | yes d ↦ rw (d, get_or-set_same xs i c.center.x nan h, get_or-set_same ys i c.center.y nan (rw long h), ← e, ← k, get_or-set_same (circles_of xs ys rs) i c nowhere (rw (length_shown xs ys rs) h))
             | no d ↦ rw (get_or-set_other xs i j c.center.x nan d, get_or-set_other ys i j c.center.y nan d, get_or-set_other (circles_of xs ys rs) i j c nowhere d) (sym (shown_at xs ys rs j l))
           ]
-
--- what was worked out of a child, as the code has it
-pub moved_known : (m : Repositioned) (c : Circle) (o : Option Circle) → child.To c ≡ m → moved m ≡ o → some c ≡ o
-moved_known m c o e h = rw (← e) at h
-
-pub stays_known : (m : Repositioned) (o : Option Circle) → child.Stays ≡ m → moved m ≡ o → none ≡ o
-stays_known m o e h = rw (← e) at h
 
 -- a moved child, written over its place in the lists
 pub child-moved : (xs ys rs : List Float) (p i : ℕ) (c : Circle) → length ys ≡ length xs → i < length xs → Lifted rs → some c ≡ repositioned (circles_of xs ys rs) p i

@@ -1,13 +1,12 @@
 -- The clusters packed by lists that are longer than there are clusters: only the front of the lists matters.
-use Prim.Native.Nat.{ℕ, ◌-◌, ◌≤◌, ◌<◌}
-use native.Mathlib.Nat.{sub-zero}
+use Prim.Native.Nat.{ℕ, ◌≤◌, ◌<◌}
 use mathlib.Core.Path.{◌≡◌, sym, ap, ◌∙◌}
 use mathlib.Core.Bool.{cond}
-use mathlib.Core.List.{List, ◌++◌}
+use mathlib.Core.List.{List, [], ◌++◌}
 use lib.Dec.{eqb}
 use lib.Ieee.{Float, nan}
 use lib.ListN.{length, get_or, take, drop, get_or-append}
-use lib.Seq.{length-take-le, get_or-take, take_at}
+use lib.Seq.{get_or-take, take_at}
 use borrow.Author.Tests.{eq-eqb}
 use Rattle.shapes.specs.declared.circle.Circle.{Circle}
 use Rattle.shapes.specs.declared.rectangle.Rectangle.{Rectangle}
@@ -24,16 +23,10 @@ use Rattle.intake.proofs.Columns.{length_widths, length_heights, width_at_lem, h
 use Rattle.packing.specs.Sides.{sided, sides_number, centre_xs, centre_ys, Sides}
 use Rattle.packing.proofs.Packings.{length-packed}
 use Rattle.packing.proofs.PackedBoxes.{same_boxes, sides_accepted}
-use Rattle.layout.specs.ClusterBoxes.{InClusters, BoxLists, shifted_by}
-use Rattle.layout.proofs.ClusterBoxes.{shift_shown, few_stay, many-move}
+use Rattle.layout.specs.ClusterBoxes.{InClusters, BoxLists, padding_for, shifted_by}
+use Rattle.layout.proofs.ClusterBoxes.{padding_shown, shift_shown, few_stay, many-move}
 
--- ---- a part of a list
-pub part_length : {A : Type 0} (k w : ℕ) (l : List A) → length l ≡ w → k ≤ w → length (take (k - 0) l) ≡ k
-part_length k w l e h = rw (sub-zero k) (length-take-le k l (rw e h))
-
-pub part_written : (k : ℕ) (new old : List Float) → length new ≡ k → take k (new ++ drop (k - 0) old) ≡ new
-part_written k new old e = take_at new (drop (k - 0) old) k e
-
+-- ---- the boxes' lists, in front of longer ones
 of_length : (f : List Rectangle → List Float) → ((l : List Rectangle) → length (f l) ≡ length l) → (count m : ℕ) (numbers : List ℕ) (cs : List Circle) (z : List Float) → m ≡ count → z ≡ f (boxes m numbers cs) → length z ≡ count
 of_length f long count m numbers cs z e h = ap length h ∙ long (boxes m numbers cs) ∙ boxes-length m numbers cs ∙ e
 
@@ -45,17 +38,24 @@ length-centre_ys : (l : List Rectangle) → length (centre_ys l) ≡ length l
 unfolding centre_ys
 length-centre_ys l = length-tab (length l) (λ a. (rectangle l a).center.y)
 
--- the boxes' lists, written to the front of longer ones
-pub boxes_in_front : (count m : ℕ) (numbers : List ℕ) (cs : List Circle) (a w u h a₀ w₀ u₀ h₀ : List Float) → m ≡ count → BoxLists (boxes m numbers cs) a w u h
-    → BoxLists (boxes count numbers cs) (take count (a ++ drop (count - 0) a₀)) (take count (w ++ drop (count - 0) w₀)) (take count (u ++ drop (count - 0) u₀)) (take count (h ++ drop (count - 0) h₀))
+pub boxes_in_front : (count m : ℕ) (numbers : List ℕ) (cs : List Circle) (a w u h a₀ w₀ u₀ h₀ : List Float) → m ≡ count
+    → BoxLists (boxes m numbers cs) a w u h
+    → BoxLists (boxes count numbers cs) (take count (a ++ a₀)) (take count (w ++ w₀)) (take count (u ++ u₀)) (take count (h ++ h₀))
 boxes_in_front count m numbers cs a w u h a₀ w₀ u₀ h₀ e l =
     rw (
-      part_written count a a₀ (of_length centre_xs length-centre_xs count m numbers cs a e l.across),
-      part_written count w w₀ (of_length widths_of length_widths count m numbers cs w e l.wide),
-      part_written count u u₀ (of_length centre_ys length-centre_ys count m numbers cs u e l.up),
-      part_written count h h₀ (of_length heights_of length_heights count m numbers cs h e l.high),
+      take_at a a₀ count (of_length centre_xs length-centre_xs count m numbers cs a e l.across),
+      take_at w w₀ count (of_length widths_of length_widths count m numbers cs w e l.wide),
+      take_at u u₀ count (of_length centre_ys length-centre_ys count m numbers cs u e l.up),
+      take_at h h₀ count (of_length heights_of length_heights count m numbers cs h e l.high),
       ← e,
     ) l
+
+pub padding_in_front : (count m : ℕ) (numbers : List ℕ) (cs : List Circle) (a w u h w₀ h₀ : List Float) (factor : Float) → m ≡ count
+    → BoxLists (boxes m numbers cs) a w u h
+    → padding_for (take count (w ++ w₀)) (take count (h ++ h₀)) factor ≡ padding (boxes count numbers cs) factor
+padding_in_front count m numbers cs a w u h w₀ h₀ factor e l =
+    let b = boxes_in_front count m numbers cs a w u h [] w₀ [] h₀ e l in
+    rw (b.wide, b.high) (padding_shown (boxes count numbers cs) factor)
 
 -- ---- one cluster, or none
 pub few_clusters_stay : (count : ℕ) (numbers : List ℕ) (cs : List Circle) (factor proportion : Float) → count < 2
@@ -93,8 +93,11 @@ module _ (count : ℕ) (numbers : List ℕ) (factor proportion : Float) (xs ys r
     }
 
     -- the packing takes them
-    pub boxes-accepted : pack_refusal rects pad proportion ≡ 0 → sides_number count widths heights pad proportion ≡ 0
+    boxes-accepted : pack_refusal rects pad proportion ≡ 0 → sides_number count widths heights pad proportion ≡ 0
     boxes-accepted h = sides_accepted count widths heights rects sides pad proportion few h
+
+    pub packing_takes : pack_refusal rects pad proportion ≡ 0 → (p : Float) → p ≡ pad → sides_number count widths heights p proportion ≡ 0
+    packing_takes ok p same = ap (λ (q : Float). sides_number count widths heights q proportion) same ∙ boxes-accepted ok
 
     abbrev new : List Rectangle
     new = packed proportion rects pad
@@ -128,6 +131,6 @@ module _ (count : ℕ) (numbers : List ℕ) (factor proportion : Float) (xs ys r
         → xs' ≡ shifted_by numbers across new-xs' xs → ys' ≡ shifted_by numbers up new-ys' ys
         → circles_of xs' ys' rs ≡ pack_clusters proportion numbers rects pad cs
     packed_by ok p r new-xs new-ys new-xs' new-ys' xs' ys' same number nx ny x y =
-        clusters-packed r new-xs new-ys new-xs' new-ys' xs' ys' (number ∙ ap (λ (q : Float). sides_number count widths heights q proportion) same ∙ boxes-accepted ok)
+        clusters-packed r new-xs new-ys new-xs' new-ys' xs' ys' (number ∙ packing_takes ok p same)
         (nx ∙ ap (λ (q : Float). cond (eqb r 0) (overwritten (centre_xs (packed proportion (sided count widths heights) q)) new-xs) new-xs) same)
         (ny ∙ ap (λ (q : Float). cond (eqb r 0) (overwritten (centre_ys (packed proportion (sided count widths heights) q)) new-ys) new-ys) same) x y

@@ -10,21 +10,16 @@ use lib.Dec.{eqb}
 use lib.Ieee.{Float, nan}
 use lib.ListN.{length, get_or, drop}
 use lib.Seq.{drop-cons}
-use Rattle.rounding.specs.Extremes.{maximum}
-use Rattle.scope.specs.Numbers.{◌+ᶠ◌, ◌*ᶠ◌, ◌≤ᶠ◌, nought, one, e_10, abs}
-use Rattle.scope.specs.Runs.{gather, always, bit}
+use Rattle.scope.specs.Numbers.{◌+ᶠ◌, ◌≤ᶠ◌, nought}
+use Rattle.scope.specs.Runs.{gather, bit}
 use Rattle.scope.specs.Links.{Region, regions, holds}
-use Rattle.scope.specs.Tolerance.{region, no_region, largest, tolerance}
+use Rattle.scope.specs.Tolerance.{region, no_region}
 use Rattle.scope.specs.Offset.{area_with_mask}
 use Rattle.laws.proofs.Regions.{length-regions, get_or_regions}
 
 -- the region of place k
 abbrev pub region_at : List ℕ → List Float → ℕ → Region
 region_at ms xs k = record { mask = get_or ms k 0; area = get_or xs k nan }
-
--- the largest area of the first k regions
-abbrev pub largest_of : List ℕ → List Float → ℕ → Float
-largest_of ms xs k = gather maximum nought always k (λ j. abs (region (regions ms xs) j).area)
 
 -- what the first k regions give that hold circle i and whose area is not at most the limit
 abbrev pub gathered : {A : Type 0} → (A → Region → A) → A → ℕ → Float → List ℕ → List Float → ℕ → A
@@ -36,10 +31,6 @@ add_area t r = t +ᶠ r.area
 abbrev pub join_others : ℕ → ℕ → Region → ℕ
 join_others i m r = bit_or m (r.mask - 2 ^ i)
 
-pub largest-none : (ms : List ℕ) (xs : List Float) → nought ≡ largest_of ms xs 0
-unfolding gather
-largest-none ms xs = refl
-
 pub gathered_none : {A : Type 0} (op : A → Region → A) (z : A) (i : ℕ) (limit : Float) (ms : List ℕ) (xs : List Float) → z ≡ gathered op z i limit ms xs 0
 unfolding gather
 gathered_none op z i limit ms xs = refl
@@ -47,14 +38,6 @@ gathered_none op z i limit ms xs = refl
 module _ (ms : List ℕ) (xs : List Float) (e : length ms ≡ length xs) where
   region_at_lem : (k : ℕ) → k < length ms → region (regions ms xs) k ≡ region_at ms xs k
   region_at_lem k h = get_or_regions ms xs k 0 nan no_region h (omega arith)
-
-  pub largest_next : (k : ℕ) → k < length xs → maximum (largest_of ms xs k) (abs (get_or xs k nan)) ≡ largest_of ms xs (k + 1)
-  unfolding gather
-  largest_next k h = rw (add-one, region_at_lem k (omega arith))
-
-  pub largest_all : (k : ℕ) → k ≤ length xs → length xs ≤ k → e_10 *ᶠ maximum (largest_of ms xs k) one ≡ tolerance (regions ms xs)
-  unfolding tolerance largest
-  largest_all k g h = let d : k ≡ length (regions ms xs) = omega (arith, length-regions ms xs e) in ap (λ (n : ℕ). e_10 *ᶠ maximum (largest_of ms xs n) one) d
 
   module _ {A : Type 0} (op : A → Region → A) (z : A) (i : ℕ) (limit : Float) (k : ℕ) where
     pub gathered_taken : (a : A) → k < length ms → bit (get_or ms k 0) i && not (get_or xs k nan ≤ᶠ limit) ≡ true → a ≡ gathered op z i limit ms xs k

@@ -3,9 +3,10 @@ use Prim.Native.Nat.{ℕ, zero, suc, ◌-◌, ◌≤◌, ◌<◌}
 use native.Mathlib.Nat.{sub-zero, le_trans}
 use native.Mathlib.Decide.{dec_lt}
 use native.Mathlib.Omega.{arith}
-use mathlib.Core.Path.{◌≡◌, refl, ap, ◌∙◌}
+use mathlib.Core.Path.{◌≡◌, refl, sym, ap, ◌∙◌}
+use mathlib.Core.Bool.{true≢false}
 use mathlib.Core.List.{List, [], ◌∷◌}
-use lib.Dec.{T}
+use lib.Dec.{T, eqb}
 use lib.Ieee.{Float, nan}
 use lib.ListN.{length, take}
 use lib.Seq.{take_at}
@@ -15,12 +16,12 @@ use Rattle.scope.specs.Runs.{filled}
 use Rattle.scope.specs.Limits.{circle_cap, radius_ok, proportion_ok}
 use Rattle.scope.specs.Links.{Region, regions, circle}
 use Rattle.scope.specs.Refusals.{rising, regions_refusal}
-use Rattle.scope.specs.Groups.{Clusters, Grouping, clusters, area_grouping}
+use Rattle.scope.specs.Groups.{Clusters as Groups, Grouping, clusters, area_grouping}
 use Rattle.scope.specs.Tolerance.{tolerance}
 use Rattle.scope.specs.Offset.{offset}
 use Rattle.scope.specs.Gauge.{gauged}
 use Rattle.scope.specs.Padding.{boxes, padding}
-use Rattle.scope.specs.Layout.{Result, arranged}
+use Rattle.scope.specs.Layout.{Result as Outcome, arranged}
 use Rattle.promises.specs.Demand3.{AreDoubles}
 use Rattle.laws.specs.Limits.{WithinLimits}
 use Rattle.laws.proofs.Cases.{not_not_iff}
@@ -34,6 +35,12 @@ use Rattle.promises.proofs.whole.PackingAccepts.{layout-packs}
 use Rattle.intake.specs.Columns.{at, circles_of, Lifted}
 use Rattle.intake.specs.Limits.{max_circles}
 use Rattle.intake.proofs.Columns.{length_shown, shown_at}
+use Rattle.std.specs.Prelude.{Result, Ok, Err, IsOk}
+use Rattle.refusals.specs.declared.Refusal.{Refusal}
+use Rattle.refusals.specs.Numbers.{number_if}
+use Rattle.refusals.proofs.Exits.{number-there}
+use Rattle.clustering.specs.declared.Clusters.{Clusters}
+use Rattle.clustering.specs.Answers.{grouped}
 use Rattle.layout.specs.ClusterBoxes.{InClusters}
 use Rattle.layout.specs.Laid.{WithinPacking, settled_clusters}
 
@@ -41,6 +48,15 @@ past_end : (l : List Float) (i : ℕ) → length l ≤ i → at l i ≡ nan
 past_end [] i h = refl
 past_end (x ∷ l) zero h = absurd (omega arith)
 past_end (x ∷ l) (suc i) h = past_end l i (omega arith)
+
+-- ---- an answer whose number is 0 is a value
+pub not_refused : {A : Type 0} (r : Result A Refusal) → number_if r ≡ 0 → IsOk r
+not_refused (Ok x) z = refl
+not_refused (Err e) z = absurd (true≢false (ap (λ (k : ℕ). eqb k 0) (sym z) ∙ number-there e))
+
+pub grouped-number : (r : Result Clusters Refusal) → number_if r ≡ (grouped r).refusal
+grouped-number (Ok c) = refl
+grouped-number (Err e) = refl
 
 -- ---- what acceptance says
 -- accepted radii need no lift
@@ -69,12 +85,15 @@ module _ (xs ys rs : List Float) (factor : Float) (masks : List ℕ) (areas : Li
   abbrev regs : List Region
   regs = regions masks areas
 
-  abbrev g : Clusters
+  abbrev g : Groups
   g = clusters (length xs) regs (tolerance regs)
 
   module _ (few : length xs ≤ max_circles) (tol : Float) (t : tol ≡ tolerance regs) (a : Grouping) (e : a ≡ area_grouping (length xs) masks areas tol) where
     grouped-whole : a ≡ record { refusal = 0; count = g.count; numbers = filled circle_cap 0 g.numbers }
     grouped-whole = e ∙ rw t ((area_grouping-answers (length xs) masks areas (tolerance regs)).on_acceptance accepted-regions)
+
+    pub none_refused : a.refusal ≡ 0
+    none_refused = ap (λ (b : Grouping). b.refusal) grouped-whole
 
     pub count_is : a.count ≡ g.count
     count_is = ap (λ (b : Grouping). b.count) grouped-whole
@@ -111,7 +130,7 @@ module _ (xs ys rs : List Float) (factor : Float) (masks : List ℕ) (areas : Li
 
       pub whole-result : (moved : ℕ) (pad : Float) → moved ≡ (offset (circles_of xs ys rs) regs).mask
           → pad ≡ padding (boxes a.count (take (length xs - 0) a.numbers) (gauged a.count (take (length xs - 0) a.numbers) cs₁)) factor
-          → ◌≡◌ {A = Result} (record { refusal = 0; count = a.count; numbers = a.numbers; moved = moved; padding = pad }) (arranged proportion (circles_of xs ys rs) factor regs).result
+          → ◌≡◌ {A = Outcome} (record { refusal = 0; count = a.count; numbers = a.numbers; moved = moved; padding = pad }) (arranged proportion (circles_of xs ys rs) factor regs).result
       unfolding arranged
       whole-result moved pad m p = rw (m, p, front-numbers, count_is, numbers_are, parted, length_shown xs ys rs)
 

@@ -1,19 +1,25 @@
 -- The answers of the calls as document 01's records.
-use Rattle.scope.specs.Container.{Contained}
-use Rattle.scope.specs.Layout.{Result as Outcome, Layout as Whole}
-use Rattle.layout.specs.declared.container.InContainer.{InContainer}
-use Rattle.layout.specs.declared.container.Placed.{Placed}
-use Rattle.layout.specs.declared.normalize.Result.{Result}
-use Rattle.layout.specs.declared.normalize.Layout.{Layout}
+use Rattle.std.specs.Prelude.{List, [], Result, Ok, Err}
+use Rattle.shapes.specs.declared.circle.Circle.{Circle}
+use Rattle.shapes.specs.declared.rectangle.Rectangle.{Rectangle}
+use Rattle.refusals.specs.declared.Refusal.{Refusal}
+use Rattle.refusals.specs.Numbers.{number}
+use Rattle.scope.specs.Container.{Contained, refused_container}
+use Rattle.scope.specs.Layout.{Result as Outcome, Layout, refused_layout}
+use Rattle.layout.specs.declared.normalize.Arrangement.{Arrangement}
 
-abbrev pub in_container : InContainer → Contained
-in_container r = record { refusal = r.refusal; container = r.container; circles = r.circles }
+-- the container given, what comes back for it, and the lent run as it then is; after a refusal the container as it was given
+abbrev pub contained_of : Rectangle → Result Rectangle Refusal → List Circle → Contained
+contained_of container (Ok placed) cs = record { refusal = 0; container = placed; circles = cs }
+contained_of container (Err r) cs = refused_container cs container (number r)
 
-abbrev pub placed_of : Contained → Placed
-placed_of r = record { refusal = r.refusal; container = r.container }
+abbrev pub outcome_of : Arrangement → Outcome
+outcome_of a = record { refusal = 0; count = a.count; numbers = a.numbers; moved = a.moved; padding = a.padding }
 
-abbrev pub result_of : Result → Outcome
-result_of r = record { refusal = r.refusal; count = r.count; numbers = r.numbers; moved = r.moved; padding = r.padding }
+-- what comes back for a layout; and the lent run as it then is beside it
+abbrev pub result_of : Result Arrangement Refusal → Outcome
+result_of (Ok a) = outcome_of a
+result_of (Err r) = (refused_layout (number r) []).result
 
-abbrev pub laid_out : Layout → Whole
-laid_out r = record { result = result_of r.result; circles = r.circles }
+abbrev pub laid_out : Result Arrangement Refusal → List Circle → Layout
+laid_out r cs = record { result = result_of r; circles = cs }

@@ -4,8 +4,5 @@ pub mod Turns
 pub mod ClusterBoxes
 pub mod Settling
 pub mod Answers
-pub mod Answered
-pub mod Recentred
 pub mod Laid
 pub mod Shown
-pub mod Contained

@@ -44,10 +44,8 @@ pub(crate) fn middle(low: f64, high: f64) -> f64
 pub(crate) fn translate(coords: &mut [f64], d: f64)
     ensures { coords.new ≡ each (λ _ x. x +ᶠ d) coords.old }
 {
-    let mut i: usize = 0;
-    while i < coords.len() {
-        coords[i] = coords[i] + d;
-        i += 1;
+    for x in coords.iter_mut() {
+        *x += d;
     }
 }
 
@@ -57,13 +55,8 @@ pub(crate) fn range_of(coords: &[f64], radii: &[f64]) -> Range
     ensures { result ≡ range_of_all coords.now radii.now }
 {
     let mut r = nothing();
-    let mut i: usize = 0;
-    while i < coords.len() {
-        let x = coords[i];
-        let radius = radii[i];
-        let next = widened(r, x - radius, x + radius);
-        r = next;
-        i += 1;
+    for (&x, &radius) in coords.iter().zip(radii) {
+        r = widened(r, x - radius, x + radius);
     }
     r
 }

@@ -1,6 +1,5 @@
 // The boxes of the clusters, an axis at a time, and the circles moved as the boxes are.
 ghost use Rattle.std.specs.Prelude.{◌≡◌, ◌<◌, length};
-ghost use Rattle.intake.specs.Columns.{each};
 ghost use Rattle.layout.specs.ClusterBoxes.{
   InClusters,
   lows_of,
@@ -52,26 +51,14 @@ pub(crate) fn cluster_ranges(
     ensures high { highs.new ≡ highs_of (length lows.old) numbers.now coords.now radii.now }
 {
     let infinity = 1.0 / 0.0;
-    fill(lows, infinity);
-    fill(highs, -infinity);
-    let mut i: usize = 0;
-    while i < coords.len() {
-        let a = numbers[i] as usize;
+    lows.fill(infinity);
+    highs.fill(-infinity);
+    for (i, &number) in numbers.iter().enumerate() {
+        let a = usize::from(number);
         let x = coords[i];
         let radius = radii[i];
         lows[a] = minimum(lows[a], x - radius);
         highs[a] = maximum(highs[a], x + radius);
-        i += 1;
-    }
-}
-
-fn fill(values: &mut [f64], v: f64)
-    ensures { values.new ≡ each (λ _ _. v) values.old }
-{
-    let mut i: usize = 0;
-    while i < values.len() {
-        values[i] = v;
-        i += 1;
     }
 }
 
@@ -81,13 +68,11 @@ pub(crate) fn middles_and_lengths(lows: &mut [f64], highs: &mut [f64])
     ensures middles { lows.new ≡ middles_of lows.old highs.old }
     ensures lengths { highs.new ≡ lengths_of lows.old highs.old }
 {
-    let mut i: usize = 0;
-    while i < lows.len() {
+    for i in 0..lows.len() {
         let low = lows[i];
         let high = highs[i];
         lows[i] = middle(low, high);
         highs[i] = high - low;
-        i += 1;
     }
 }
 
@@ -100,10 +85,8 @@ pub(crate) fn padding_of(widths: &[f64], heights: &[f64], factor: f64) -> f64
         return 0.0;
     }
     let mut sum = 0.0;
-    let mut i: usize = 0;
-    while i < widths.len() {
-        sum = sum + widths[i] * heights[i];
-        i += 1;
+    for (&width, &height) in widths.iter().zip(heights) {
+        sum += width * height;
     }
     root_or_nan(sum) * factor
 }
@@ -113,10 +96,8 @@ pub(crate) fn shift(coords: &mut [f64], numbers: &[u8], olds: &[f64], news: &[f6
     requires { (length numbers.now ≡ length coords.old) × (length news.now ≡ length olds.now) × InClusters (length olds.now) numbers.now }
     ensures { coords.new ≡ shifted_by numbers.now olds.now news.now coords.old }
 {
-    let mut i: usize = 0;
-    while i < coords.len() {
-        let a = numbers[i] as usize;
-        coords[i] = coords[i] + (news[a] - olds[a]);
-        i += 1;
+    for (i, x) in coords.iter_mut().enumerate() {
+        let a = usize::from(numbers[i]);
+        *x += news[a] - olds[a];
     }
 }

@@ -1,7 +1,8 @@
-// The gauge of normalize.rs: each cluster turned and mirrored, so that its first two circles lie level and the first stands at the lower left.
-// Which way a cluster lies says nothing of its inks, so one way is chosen for all, and circles lose nothing by it: a turned circle is a circle.
-// A cluster is the circles that have its number.
-ghost use Rattle.std.specs.Prelude.{◌≡◌, ◌&&◌, ◌<◌, ◌≤◌, length};
+// The gauge of normalize.rs: each cluster turned and mirrored, so that its first two circles lie level and the first stands at the lower
+// left. Which way a cluster lies says nothing of its inks, so one way is chosen for all, and circles lose nothing by it: a turned circle is
+// a circle. A cluster is the circles that have its number.
+ghost use Rattle.std.specs.Prelude.{◌≡◌, ◌&&◌, ◌<◌, ◌≤◌, length, IfSome};
+ghost use Rattle.std.specs.Option.{unwrap_or};
 ghost use Rattle.std.specs.Float.Ieee.{eq};
 ghost use Rattle.scope.specs.Numbers.{◌-ᶠ◌, ◌*ᶠ◌, ◌<ᶠ◌, ◌≤ᶠ◌, nought, two, e_10, abs};
 ghost use Rattle.scope.specs.Gauge.{in_cluster, rotate_cluster, gauged, level, turn};
@@ -33,10 +34,8 @@ pub(crate) fn gauged_clusters(xs: &mut [f64], ys: &mut [f64], numbers: &[u8], co
     requires { (length ys.old ≡ length xs.old) × (length numbers.now ≡ length xs.old) }
     ensures { AllBecome (gauged count numbers.now) xs.old ys.old xs.new ys.new }
 {
-    let mut a: usize = 0;
-    while a < count {
+    for a in 0..count {
         rotate_cluster(xs, ys, numbers, a);
-        a += 1;
     }
 }
 
@@ -45,39 +44,29 @@ fn rotate_cluster(xs: &mut [f64], ys: &mut [f64], numbers: &[u8], a: usize)
     requires { (length ys.old ≡ length xs.old) × (length numbers.now ≡ length xs.old) }
     ensures { AllBecome (rotate_cluster (in_cluster numbers.now a)) xs.old ys.old xs.new ys.new }
 {
-    let n = numbers.len();
-    let first = next_member(numbers, a, 0);
-    if first >= n {
+    let Some(first) = next_member(numbers, a, 0) else {
         return;
-    }
-    let second = next_member(numbers, a, first + 1);
-    if second >= n {
+    };
+    let Some(second) = next_member(numbers, a, first + 1) else {
         return;
-    }
+    };
     turn_level(xs, ys, numbers, a, first, second);
     mirror(xs, numbers, a, first);
     mirror(ys, numbers, a, first);
 }
 
-// The first circle of the cluster at or past a place, or n.
-fn next_member(numbers: &[u8], a: usize, from: usize) -> usize
+// The first circle of the cluster at or past a place.
+fn next_member(numbers: &[u8], a: usize, from: usize) -> Option<usize>
     requires { from ≤ length numbers.now }
-    ensures { FirstFrom (in_cluster numbers.now a) from (length numbers.now) result }
+    ensures first { let n = length numbers.now in FirstFrom (in_cluster numbers.now a) from n (unwrap_or result n) }
+    ensures inside { IfSome result (λ i. i < length numbers.now) }
 {
-    let mut i = from;
-    while i < numbers.len() {
-        if wide(numbers[i]) == a {
-            return i;
+    for i in from..numbers.len() {
+        if usize::from(numbers[i]) == a {
+            return Some(i);
         }
-        i += 1;
     }
-    i
-}
-
-fn wide(number: u8) -> usize
-    ensures { result ≡ number }
-{
-    number as usize
+    None
 }
 
 // ---- the turn
@@ -138,15 +127,13 @@ fn all_turned(xs: &mut [f64], ys: &mut [f64], numbers: &[u8], a: usize, t: Turn,
     ensures y { ys.new ≡ members (in_cluster numbers.now a)
         (λ i y. turned_y (as_turn t) p q (at xs.old i) y) ys.old }
 {
-    let mut i: usize = 0;
-    while i < xs.len() {
-        if wide(numbers[i]) == a {
+    for (i, &number) in numbers.iter().enumerate() {
+        if usize::from(number) == a {
             let dx = xs[i] - p;
             let dy = ys[i] - q;
             xs[i] = p + dx * t.cosine - dy * t.sine;
             ys[i] = q + dx * t.sine + dy * t.cosine;
         }
-        i += 1;
     }
 }
 
@@ -170,14 +157,10 @@ fn centres_range(coords: &[f64], numbers: &[u8], a: usize) -> Range
     ensures { result ≡ range_over (in_cluster numbers.now a) (length coords.now) (at coords.now) (at coords.now) }
 {
     let mut r = nothing();
-    let mut i: usize = 0;
-    while i < coords.len() {
-        if wide(numbers[i]) == a {
-            let x = coords[i];
-            let next = widened(r, x, x);
-            r = next;
+    for (&x, &number) in coords.iter().zip(numbers) {
+        if usize::from(number) == a {
+            r = widened(r, x, x);
         }
-        i += 1;
     }
     r
 }
@@ -186,11 +169,9 @@ fn all_mirrored(coords: &mut [f64], numbers: &[u8], a: usize, m: f64)
     requires { length numbers.now ≡ length coords.old }
     ensures { coords.new ≡ members (in_cluster numbers.now a) (λ _ x. two *ᶠ m -ᶠ x) coords.old }
 {
-    let mut i: usize = 0;
-    while i < coords.len() {
-        if wide(numbers[i]) == a {
-            coords[i] = 2.0 * m - coords[i];
+    for (i, x) in coords.iter_mut().enumerate() {
+        if usize::from(numbers[i]) == a {
+            *x = 2.0 * m - *x;
         }
-        i += 1;
     }
 }

@@ -58,7 +58,7 @@ fn center_shapes_in_container(
     to_origin(ys, up);
 }
 
-// Whether n circles are left where they are: none, too large for the container, or in the middle already, so that they stay to the last bit.
+// Whether n circles are left where they are: none, too large for the container, or in the middle already: they stay to the last bit.
 fn stays(n: usize, width: f64, height: f64, across: Range, up: Range) -> bool
     ensures { result ≡ stays n width height across up }
 {

@@ -1,5 +1,5 @@
 -- Arrays written entry by entry: what stands at a place after a store, and a prefix that grows by one.
-use Rattle.std.proofs.Common.{◌≡◌, ℕ, zero, suc, ◌+◌, ◌<◌, ◌≤◌, Bool, true, false, List, [], ◌∷◌, length, get_or, set, replicate, sym, refl, ap, ◌∙◌, add-one, arith, length-set, take_all, get_or-set_other, get_or-set_same, ext_get_or}
+use Rattle.std.proofs.Common.{◌≡◌, ℕ, suc, ◌+◌, ◌<◌, ◌≤◌, Bool, true, false, List, length, set, replicate, sym, ap, ◌∙◌, add-one, arith, length-set, take_all, get_or-set_other, get_or-set_same, ext_get_or}
 use native.Mathlib.Decide.{ℕ_discrete}
 use native.Mathlib.Nat.{min-eq_left}
 use lib.ListN.{length-replicate}
@@ -28,12 +28,6 @@ module _ {A : Type 0} (z : A) (f : ℕ → A) where
   pub at_all : (n : ℕ) (l : List A) → length l ≡ n → At n l z f → l ≡ tab n f
   at_all n l e r =
       ext_get_or z l (tab n f) (e ∙ sym (length-tab n f)) (λ i h. let below : i < n = rw e at h in r.is i below ∙ sym (get_or_tab n f i z below))
-
--- below the length it does not matter what is given past the end
-pub get_d_any : {A : Type 0} (l : List A) (i : ℕ) (d e : A) → i < length l → get_or l i d ≡ get_or l i e
-get_d_any [] i d e h = absurd (omega arith)
-get_d_any (a ∷ l) zero d e h = refl
-get_d_any (a ∷ l) (suc i) d e h = get_d_any l i d e (omega arith)
 
 -- ---- what passes, counted one by one
 module _ {c : ℕ} (j : ℕ) (p : ℕ → Bool) (b : Bool) (e : c ≡ many j p) (is : b ≡ p j) where

@@ -1,5 +1,5 @@
 -- The table of column counts has the rule of document 01 at every entry for 1.618: one test, computed over the whole table. And the column answer.
-use Rattle.std.proofs.Common.{◌≡◌, ℕ, suc, ◌<◌, ◌≤◌, Bool, true, false, T, eqb, ◌≢◌, List, [], ◌∷◌, get_or, sym, refl, ap, ◌∙◌, arith, eqb→eq}
+use Rattle.std.proofs.Common.{◌≡◌, ℕ, suc, ◌<◌, ◌≤◌, Bool, true, false, T, eqb, List, [], ◌∷◌, get_or, sym, refl, ◌∙◌, arith, eqb→eq}
 use lib.Ieee.{Float, binary64, eq, fits}
 use Rattle.algebra.proofs.Table.{every, at}
 use Rattle.rounding.specs.Value.{negative, Fin}
@@ -8,13 +8,12 @@ use Rattle.rounding.proofs.Unique.{val_unique}
 use Rattle.rounding.proofs.Order.{eq_is}
 use Rattle.scope.specs.Numbers.{golden}
 use Rattle.scope.specs.Limits.{circle_cap, proportion_ok}
-use Rattle.scope.specs.Refusals.{columns_refusal, refused, given}
-use Rattle.scope.specs.Packing.{columns, columns_answer}
+use Rattle.scope.specs.Refusals.{columns_refusal}
+use Rattle.scope.specs.Packing.{columns}
 use Rattle.scope.specs.Computing.{computing}
 use Rattle.laws.proofs.Accepted.{not_too_many_iff, not_bad_proportion_iff}
 use Rattle.laws.proofs.EntryPoints.{columns_reads}
 use Rattle.intake.specs.Limits.{max_circles}
-use Rattle.laws.proofs.AfterRefusal.{columns-answers}
 use Rattle.promises.proofs.packing.Proportions.{Proportion, proportion_is}
 
 -- the columns of 1 to 64 boxes
@@ -57,14 +56,8 @@ golden-alone p P t =
     let same = rw (val-mag binary64 p P.sign, val-mag binary64 golden golden-sign) at ((eq_is binary64 p golden P.fin golden-fin).0 t) in
     val_unique binary64 p golden P.fin golden-fin (P.sign ∙ sym golden-sign) (omega arith)
 
--- ---- the answer
+-- ---- what the answer has checked
 module _ (k : ℕ) (proportion : Float) where
-  pub columns-refused : (r : ℕ) → r ≡ columns_refusal k proportion → r ≢ 0 → refused r ≡ columns_answer k proportion
-  columns-refused r e h = ap refused e ∙ sym ((columns-answers k proportion).at_refusal (λ z. h (e ∙ z)))
-
-  pub columns-given : columns_refusal k proportion ≡ 0 → given (columns k proportion) ≡ columns_answer k proportion
-  columns-given h = sym ((columns-answers k proportion).on_acceptance h)
-
   pub columns_asked : columns_refusal k proportion ≡ 0 → (k ≤ max_circles) × T (proportion_ok proportion)
   unfolding circle_cap
   columns_asked h =

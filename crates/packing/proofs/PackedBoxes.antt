@@ -1,6 +1,5 @@
 -- The whole answer for boxes of given sides: refused, or the boxes put together again from their sides and the places of their centres.
-use Rattle.std.proofs.Common.{◌≡◌, ℕ, ◌<◌, ◌≤◌, min, true, cond, not, ◌||◌, T, eqb, List, length, take, drop, sym, refl, ap, ◌∙◌, arith, length-take-le, get_or-take, ext_get_or, eq-eqb}
-use native.Mathlib.Nat.{min-eq_left}
+use Rattle.std.proofs.Common.{◌≡◌, ℕ, ◌<◌, ◌≤◌, true, not, ◌||◌, T, List, length, take, drop, sym, refl, ap, ◌∙◌, get_or-take, ext_get_or, take_all}
 use lib.ListN.{get_or-append}
 use lib.Ieee.{Float, nan}
 use Rattle.shapes.specs.declared.rectangle.Rectangle.{Rectangle}
@@ -8,8 +7,7 @@ use Rattle.shapes.specs.Records.{rectangle_of}
 use Rattle.scope.specs.Runs.{tab, filled, any}
 use Rattle.scope.specs.Limits.{circle_cap, side_ok, proportion_ok}
 use Rattle.scope.specs.Refusals.{causes, cause_holds, first, refusal, too_many, bad_side, pack_refusal}
-use Rattle.scope.specs.Packing.{Packing, no_rectangle, rectangle, width_at, height_at, packed, refused_packing, accepted_packing, packing, skyline_pack}
-use Rattle.scope.specs.Twins.{first_packing}
+use Rattle.scope.specs.Packing.{Packing, no_rectangle, rectangle, packed, refused_packing, accepted_packing, packing, skyline_pack}
 use Rattle.laws.proofs.Cases.{is_false}
 use Rattle.laws.proofs.Accepted.{not_too_many_iff, not_bad_proportion_iff}
 use Rattle.laws.proofs.EntryPoints.{pack_reads}
@@ -20,10 +18,8 @@ use Rattle.laws.specs.Answers.{Answers}
 use Rattle.laws.proofs.AfterRefusal.{packing-answers}
 use Rattle.laws.proofs.Counted.{few, by_many, none-counted}
 use Rattle.laws.proofs.ByValue.{unless-many}
-use Rattle.intake.proofs.Columns.{any-either, not_both, length_widths, length_heights, width_at_lem, height_at_lem}
-use Rattle.intake.proofs.Splitting.{split_of}
+use Rattle.intake.proofs.Columns.{any-either, not_both, width_at_lem, height_at_lem}
 use Rattle.packing.specs.Sides.{sided, sides_number, sided_packing, centre_xs, centre_ys, box_at, Sides}
-use Rattle.packing.specs.Lists.{At}
 use Rattle.packing.proofs.Packings.{sided_sides, length-packed, packed_by_sides, boxed_at}
 
 -- ---- a list over the front of another
@@ -79,14 +75,11 @@ module _ (n : ℕ) (ws hs : List Float) (pad proportion : Float) where
         sides_kept i h = boxed_at n ws hs (sided n ws hs) (sided_sides n ws hs) pad proportion i h
 
   -- what the code puts together is the answer
-  pub put_together : (r : ℕ) (xs ys xs' ys' : List Float) (rects : List Rectangle) → r ≡ sides_number n ws hs pad proportion → r ≡ 0
-      → xs' ≡ cond (eqb r 0) (overwritten (centre_xs boxes) xs) xs → ys' ≡ cond (eqb r 0) (overwritten (centre_ys boxes) ys) ys → rects ≡ filled circle_cap no_rectangle (tab n (box_at xs' ys' ws hs))
+  pub put_together : (xs ys xs' ys' : List Float) (rects : List Rectangle) → sides_number n ws hs pad proportion ≡ 0
+      → xs' ≡ overwritten (centre_xs boxes) xs → ys' ≡ overwritten (centre_ys boxes) ys → rects ≡ filled circle_cap no_rectangle (tab n (box_at xs' ys' ws hs))
       → record { refusal = 0; rectangles = rects } ≡ sided_packing n ws hs pad proportion
-  put_together r xs ys xs' ys' rects number none x y e =
-      let yes = eq-eqb r 0 none in
-      let same-x : xs' ≡ overwritten (centre_xs boxes) xs = x ∙ rw yes in
-      let same-y : ys' ≡ overwritten (centre_ys boxes) ys = y ∙ rw yes in
-      ap (λ (l : List Rectangle). record { refusal = 0; rectangles = l }) (e ∙ rw (same-x, same-y, boxes-back xs ys)) ∙ sym (sided-answers.on_acceptance (sym number ∙ none))
+  put_together xs ys xs' ys' rects none x y e =
+      ap (λ (l : List Rectangle). record { refusal = 0; rectangles = l }) (e ∙ rw (x, y, boxes-back xs ys)) ∙ sym (sided-answers.on_acceptance none)
 
 -- ---- only the sides matter
 by_lists : {k : ℕ} {ws hs : List Float} (l : List Rectangle) → Sides k ws hs l → any bad_side l ≡ any (λ x. not (side_ok x)) (tab k (at ws)) || any (λ x. not (side_ok x)) (tab k (at hs))
@@ -116,32 +109,24 @@ module _ (k : ℕ) (ws hs : List Float) (rects : List Rectangle) (s : Sides k ws
   unfolding skyline_pack pack_refusal
   packing_by_sides = rw (s.long, (sided_sides k ws hs).long, same_side, same_boxes)
 
--- the first n boxes of an array
-pub first_by_sides : (n : ℕ) (ws hs : List Float) (rects : List Rectangle) (pad proportion : Float) → length rects ≡ max_circles → At (min n max_circles) ws nan (width_at rects) → At (min n max_circles) hs nan (height_at rects)
-    → sided_packing n ws hs pad proportion ≡ first_packing n rects pad proportion
-unfolding sided_packing first_packing circle_cap
-first_by_sides n ws hs rects pad proportion long w h = by_many n (λ e. rw e) (λ e.
-    let l : n ≤ max_circles = few n e in
-    let all : min n max_circles ≡ n = min-eq_left l in
-    rw e (sym (packing_by_sides n ws hs (take n rects) (record {
-      long = length-take-le n rects (omega arith);
-      wide = λ i g. ap (λ (r : Rectangle). r.width) (get_or-take n rects i no_rectangle g) ∙ sym (w.is i (omega arith));
-      high = λ i g. ap (λ (r : Rectangle). r.height) (get_or-take n rects i no_rectangle g) ∙ sym (h.is i (omega arith));
-    }) pad proportion)))
-
--- ---- a run whose sides were written over two lists, unless there are too many boxes
+-- ---- a run whose sides stand in two lists, unless there are too many boxes
 many-refused : (rects : List Rectangle) (pad proportion : Float) → too_many (length rects) ≡ true → refused_packing 1 ≡ skyline_pack rects pad proportion
 unfolding skyline_pack pack_refusal refusal first cause_holds causes packing
 many-refused rects pad proportion h = rw h
 
-written_sides : (rects : List Rectangle) (ws hs : List Float) → Sides (length rects) (overwritten (widths_of rects) ws) (overwritten (heights_of rects) hs) rects
-written_sides rects ws hs = record {
+in_columns : (rects : List Rectangle) (ws hs : List Float) → take (length rects) ws ≡ widths_of rects → take (length rects) hs ≡ heights_of rects
+    → Sides (length rects) ws hs rects
+in_columns rects ws hs w h = record {
   long = refl;
-  wide = λ i g. sym (front_at (widths_of rects) ws i (rw (length_widths rects) g) ∙ width_at_lem rects i g);
-  high = λ i g. sym (front_at (heights_of rects) hs i (rw (length_heights rects) g) ∙ height_at_lem rects i g);
+  wide = λ i g. sym (sym (get_or-take (length rects) ws i nan g) ∙ rw w (width_at_lem rects i g));
+  high = λ i g. sym (sym (get_or-take (length rects) hs i nan g) ∙ rw h (height_at_lem rects i g));
 }
 
-pub split_by_sides : (rects : List Rectangle) (ws hs : List Float) (pad proportion : Float) → sided_packing (length rects) (split_of widths_of rects ws) (split_of heights_of rects hs) pad proportion ≡ skyline_pack rects pad proportion
-unfolding sided_packing
-split_by_sides rects ws hs pad proportion =
-    by_many (length rects) (λ h. rw h (many-refused rects pad proportion h)) (λ h. rw h (sym (packing_by_sides _ _ _ rects (written_sides rects ws hs) pad proportion)))
+pub by_columns : (rects : List Rectangle) (k : ℕ) (ws hs : List Float) (pad proportion : Float) → k ≡ length (take max_circles rects)
+    → take k ws ≡ widths_of (take max_circles rects) → take k hs ≡ heights_of (take max_circles rects)
+    → sided_packing (length rects) ws hs pad proportion ≡ skyline_pack rects pad proportion
+unfolding sided_packing circle_cap
+by_columns rects k ws hs pad proportion e w h =
+    by_many (length rects) (λ t. rw t (many-refused rects pad proportion t)) (λ t.
+    let all : take max_circles rects ≡ rects = take_all max_circles rects (few (length rects) t) in
+    rw t (sym (packing_by_sides _ _ _ rects (in_columns rects ws hs (rw (e, all) at w) (rw (e, all) at h)) pad proportion)))

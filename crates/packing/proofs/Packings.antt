@@ -8,13 +8,14 @@ use Rattle.shapes.specs.declared.rectangle.Rectangle.{Rectangle}
 use Rattle.scope.specs.Numbers.{◌*ᶠ◌, nought}
 use Rattle.scope.specs.Runs.{tab, any}
 use Rattle.scope.specs.Limits.{side_ok, circle_cap}
-use Rattle.scope.specs.Refusals.{causes, cause_holds, first, refusal, too_many, bad_side, bad_padding, bad_proportion, pack_refusal}
+use Rattle.scope.specs.Refusals.{front_to_back, too_many, bad_side, bad_padding, bad_proportion, pack_refusal}
 use Rattle.scope.specs.Packing.{columns, before, place, placed, no_rectangle, rectangle, rectangle_area, places, column_of, row_of, width_at, height_at, placed_centre, packed}
 use Rattle.laws.proofs.Runs.{length-tab, get_or_tab, tab_equal, many_equal, many_at_most, many_weaker_once}
 use Rattle.intake.specs.Columns.{at, overwritten}
 use Rattle.intake.specs.Limits.{max_circles}
 use Rattle.intake.proofs.Columns.{any-either, not_both}
-use Rattle.laws.proofs.Counted.{few, by_many, at_once}
+use Rattle.laws.proofs.Counted.{few, by_many}
+use Rattle.intake.proofs.Checked.{boxes_in_order}
 use Rattle.packing.specs.Sides.{sided, sides_number, centre_xs, centre_ys, Sides}
 use Rattle.packing.specs.Lists.{At, Lined}
 use Rattle.packing.proofs.Arrays.{at_all}
@@ -175,18 +176,11 @@ module _ (n : ℕ) (ws hs : List Float) (pad proportion : Float) (w : length ws 
       (λ i g. let below : i < n = rw k at g in
       rw (s.wide i below, s.high i below, get_or-take n ws i nan below, get_or-take n hs i nan below) (not_both (side_ok (at ws i)) (side_ok (at hs i))))
 
-  either_side : (m a b p q : Bool) → refusal ((1, m) ∷ (7, a) ∷ (7, b) ∷ (8, p) ∷ (16, q) ∷ []) ≡ refusal ((1, m) ∷ (7, a || b) ∷ (8, p) ∷ (16, q) ∷ [])
-  unfolding refusal first cause_holds causes
-  either_side m true b p q = refl
-  either_side m false b p q = refl
-
   pub sides_number_lem :
-      refusal
+      front_to_back
       ((1, too_many n) ∷ (7, any long (take (min n max_circles) ws)) ∷ (7, any long (take (min n max_circles) hs)) ∷ (8, bad_padding pad) ∷ (16, bad_proportion proportion) ∷ [])
       ≡ sides_number n ws hs pad proportion
-  unfolding sides_number pack_refusal circle_cap
-  sides_number_lem = by_many n (λ e. rw e (at_once _)) (λ e.
+  unfolding sides_number pack_refusal circle_cap front_to_back
+  sides_number_lem = by_many n (λ e. rw e) (λ e.
       let l : n ≤ max_circles = few n e in
-      let first : refusal ((1, false) ∷ (7, any long (take n ws)) ∷ (7, any long (take n hs)) ∷ (8, bad_padding pad) ∷ (16, bad_proportion proportion) ∷ []) ≡ pack_refusal (sided n ws hs) pad proportion =
-      either_side false (any long (take n ws)) (any long (take n hs)) (bad_padding pad) (bad_proportion proportion) ∙ rw ((sided_sides n ws hs).long, e, any_side l) in
-      rw (e, min-eq_left l) first)
+      rw ((sided_sides n ws hs).long, e, min-eq_left l, any_side l, boxes_in_order))

@@ -1,14 +1,10 @@
--- The answers of packing as document 01's numbers and values.
-use Rattle.std.specs.Prelude.{ℕ}
-use Rattle.scope.specs.Refusals.{Answer, refused, given}
-use Rattle.scope.specs.Packing.{Packing}
-use Rattle.packing.specs.declared.Packed.{Packed}
-use Rattle.packing.specs.declared.ColumnCount.{ColumnCount}
-use Rattle.packing.specs.declared.ColumnCount.TheVariants as number
+-- The answer of packing as document 01's.
+use Rattle.std.specs.Prelude.{List, Result, Ok, Err}
+use Rattle.shapes.specs.declared.rectangle.Rectangle.{Rectangle}
+use Rattle.scope.specs.Packing.{Packing, refused_packing}
+use Rattle.refusals.specs.declared.Refusal.{Refusal}
+use Rattle.refusals.specs.Numbers.{number}
 
-abbrev pub counted : ColumnCount → Answer ℕ
-counted (number.Of k) = given k
-counted (number.Refused k) = refused k
-
-abbrev pub packed_boxes : Packed → Packing
-packed_boxes r = record { refusal = r.refusal; rectangles = r.rectangles }
+abbrev pub packed_boxes : Result (List Rectangle) Refusal → Packing
+packed_boxes (Ok rects) = record { refusal = 0; rectangles = rects }
+packed_boxes (Err r) = refused_packing (number r)

@@ -10,8 +10,6 @@ ghost use Rattle.scope.specs.Runs.{tab, filled};
 ghost use Rattle.scope.specs.Limits.{circle_cap, proportion_ok};
 ghost use Rattle.scope.specs.Packing.{
   no_rectangle,
-  width_at,
-  height_at,
   columns,
   columns_answer,
   place,
@@ -19,122 +17,57 @@ ghost use Rattle.scope.specs.Packing.{
   start,
   centred,
   placed,
-  refused_packing,
   skyline_pack,
 };
-ghost use Rattle.scope.specs.Twins.{first_packing};
+ghost use Rattle.refusals.specs.Numbers.{number_if, answer_of};
 ghost use Rattle.intake.specs.Limits.{max_circles};
-ghost use Rattle.intake.specs.Columns.{at, overwritten};
-ghost use Rattle.packing.specs.Answers.{counted, packed_boxes};
-ghost use Rattle.packing.specs.Sides.{sides_number, sided_packing, packed_xs, packed_ys, unless_refused, box_at};
+ghost use Rattle.intake.specs.Columns.{at};
+ghost use Rattle.packing.specs.Answers.{packed_boxes};
+ghost use Rattle.packing.specs.Sides.{sides_number, packed_xs, packed_ys, unless_refused, box_at};
 ghost use Rattle.packing.specs.Raised.{raised_word};
-ghost use Rattle.packing.specs.Lists.{At, Lined, InLines, line_of, FullLength};
+ghost use Rattle.packing.specs.Lists.{At, Lined, InLines, line_of};
 
 use geometry::lengths::root_or_nan;
-use intake::causes::{number_of, of_count, of_padding, of_proportion, of_sides};
-use intake::limits::{GOLDEN, MAX_CIRCLES, room};
-use intake::runs::split_sides;
+use intake::arrays::Sides;
+use intake::checks::{any_bad_side, check_columns};
+use intake::limits::{GOLDEN, MAX_CIRCLES, bad_padding, bad_proportion, room, too_many};
+use refusals::{Refusal, refuse_first};
 use shapes::extremes::maximum;
 use shapes::point::Point;
 use shapes::rectangle::Rectangle;
 use std::num::truncating_f64_to_u64;
 
-// A number of columns, or a refusal's number.
-#[derive(Clone, Copy)]
-pub enum ColumnCount {
-    Of(usize),
-    Refused(u8),
-}
-
-// A refusal's number or 0, and the boxes in the order given. What is not used is 0.
-#[repr(C)]
-#[derive(Clone, Copy)]
-pub struct Packed {
-    pub refusal: u8,
-    pub rectangles: [Rectangle; MAX_CIRCLES],
-}
-
 // No boxes have 0 columns. Refused: too many boxes (1), the proportion (16).
-pub fn columns(k: usize, proportion: f64) -> ColumnCount
-    ensures { counted result ≡ columns_answer k proportion }
+pub fn columns(k: usize, proportion: f64) -> Result<usize, Refusal>
+    ensures { answer_of result ≡ columns_answer k proportion }
 {
-    let refusal = number_of(of_count(k) | of_proportion(proportion));
-    if refusal != 0 {
-        return ColumnCount::Refused(refusal);
-    }
-    ColumnCount::Of(columns_of(k, proportion))
+    check_columns(k, proportion)?;
+    Ok(columns_of(k, proportion))
 }
 
-// Of the boxes only the first n are looked at, and of those only the sides.
+// The boxes in the order given, moved. Of a box only the sides are looked at, and what is not used is 0.
 // Refused: too many boxes (1), a side (7), the padding (8), the proportion (16).
-pub fn skyline_pack_by_value(
-    rectangles: [Rectangle; MAX_CIRCLES],
-    n: usize,
+pub fn skyline_pack(
+    rectangles: &[Rectangle],
     padding: f64,
     proportion: f64,
-) -> Packed
-    ensures { packed_boxes result ≡ first_packing n rectangles padding proportion }
-{
-    let mut widths = [0.0; MAX_CIRCLES];
-    let mut heights = [0.0; MAX_CIRCLES];
-    sides_of(rectangles, room(n), &mut widths, &mut heights);
-    packed_at(&widths, &heights, n, padding, proportion)
-}
-
-// The same of a lent run of boxes, all of them.
-pub fn skyline_pack(rectangles: &[Rectangle], padding: f64, proportion: f64) -> Packed
+) -> Result<[Rectangle; MAX_CIRCLES], Refusal>
     ensures { packed_boxes result ≡ skyline_pack rectangles.now padding proportion }
 {
-    let mut widths = [0.0; MAX_CIRCLES];
-    let mut heights = [0.0; MAX_CIRCLES];
     let n = rectangles.len();
-    split_sides(rectangles, &mut widths, &mut heights);
-    packed_at(&widths, &heights, n, padding, proportion)
-}
-
-// The sides of the first m boxes.
-fn sides_of(rectangles: [Rectangle; MAX_CIRCLES], m: usize, widths: &mut [f64], heights: &mut [f64])
-    requires { (m ≤ max_circles) × (length widths.old ≡ max_circles) × (length heights.old ≡ max_circles) }
-    ensures { At m widths.new nan (width_at rectangles) × At m heights.new nan (height_at rectangles) }
-{
-    let mut i: usize = 0;
-    while i < m {
-        let r = rectangles[i];
-        widths[i] = r.width;
-        heights[i] = r.height;
-        i += 1;
-    }
-}
-
-// The boxes of these sides, placed.
-fn packed_at(
-    widths: &[f64; MAX_CIRCLES],
-    heights: &[f64; MAX_CIRCLES],
-    n: usize,
-    padding: f64,
-    proportion: f64,
-) -> Packed
-    ensures { packed_boxes result ≡ sided_packing n widths.now heights.now padding proportion }
-{
+    let sides = Sides::of(rectangles);
     let mut xs = [0.0; MAX_CIRCLES];
     let mut ys = [0.0; MAX_CIRCLES];
-    let refusal = pack_sides(widths, heights, n, padding, proportion, &mut xs, &mut ys);
-    if refusal != 0 {
-        return refused(refusal);
-    }
-    Packed {
-        refusal: 0,
-        rectangles: boxes_at(widths, heights, &xs, &ys, n),
-    }
-}
-
-fn refused(number: u8) -> Packed
-    ensures { packed_boxes result ≡ refused_packing number }
-{
-    Packed {
-        refusal: number,
-        rectangles: [no_rectangle(); MAX_CIRCLES],
-    }
+    pack_sides(
+        &sides.widths,
+        &sides.heights,
+        n,
+        padding,
+        proportion,
+        &mut xs,
+        &mut ys,
+    )?;
+    Ok(boxes_at(&sides.widths, &sides.heights, &xs, &ys, n))
 }
 
 // What stands where there is no box.
@@ -160,20 +93,17 @@ fn boxes_at(
     ensures { result ≡ filled circle_cap no_rectangle (tab n (box_at xs.now ys.now widths.now heights.now)) }
 {
     let mut boxes = [no_rectangle(); MAX_CIRCLES];
-    let mut i: usize = 0;
-    while i < n {
-        let r = Rectangle {
+    for i in 0..n {
+        boxes[i] = Rectangle {
             center: Point { x: xs[i], y: ys[i] },
             width: widths[i],
             height: heights[i],
         };
-        boxes[i] = r;
-        i += 1;
     }
     boxes
 }
 
-// Where the centres of n boxes come to stand, by their sides: a refusal's number or 0.
+// Where the centres of n boxes come to stand, by their sides.
 // Refused, and then nothing is written: too many boxes (1), a side (7), the padding (8), the proportion (16).
 pub fn pack_sides(
     widths: &[f64; MAX_CIRCLES],
@@ -183,72 +113,40 @@ pub fn pack_sides(
     proportion: f64,
     xs: &mut [f64; MAX_CIRCLES],
     ys: &mut [f64; MAX_CIRCLES],
-) -> u8
-    ensures number { result ≡ sides_number n widths.now heights.now padding proportion }
-    ensures x { xs.new ≡ unless_refused result (packed_xs n widths.now heights.now padding proportion) xs.old }
-    ensures y { ys.new ≡ unless_refused result (packed_ys n widths.now heights.now padding proportion) ys.old }
+) -> Result<(), Refusal>
+    ensures number { number_if result ≡ sides_number n widths.now heights.now padding proportion }
+    ensures x { xs.new ≡ unless_refused (number_if result) (packed_xs n widths.now heights.now padding proportion) xs.old }
+    ensures y { ys.new ≡ unless_refused (number_if result) (packed_ys n widths.now heights.now padding proportion) ys.old }
 {
-    pack_lists(widths, heights, n, padding, proportion, xs, ys)
-}
-
-fn pack_lists(
-    widths: &[f64],
-    heights: &[f64],
-    n: usize,
-    padding: f64,
-    proportion: f64,
-    xs: &mut [f64],
-    ys: &mut [f64],
-) -> u8
-    requires { FullLength widths.now heights.now xs.old ys.old }
-    ensures number { result ≡ sides_number n widths.now heights.now padding proportion }
-    ensures x { xs.new ≡ unless_refused result (packed_xs n widths.now heights.now padding proportion) xs.old }
-    ensures y { ys.new ≡ unless_refused result (packed_ys n widths.now heights.now padding proportion) ys.old }
-{
-    let refusal = pack_number(widths, heights, n, padding, proportion);
-    if refusal != 0 {
-        return refusal;
-    }
-    in_front(widths, heights, n, padding, proportion, xs, ys);
-    0
-}
-
-fn in_front(
-    widths: &[f64],
-    heights: &[f64],
-    n: usize,
-    padding: f64,
-    proportion: f64,
-    xs: &mut [f64],
-    ys: &mut [f64],
-)
-    requires { (n ≤ max_circles) × (length widths.now ≡ max_circles) × (length heights.now ≡ max_circles)
-        × (length xs.old ≡ max_circles) × (length ys.old ≡ max_circles) × T (proportion_ok proportion) }
-    ensures x { xs.new ≡ overwritten (packed_xs n widths.now heights.now padding proportion) xs.old }
-    ensures y { ys.new ≡ overwritten (packed_ys n widths.now heights.now padding proportion) ys.old }
-{
+    check_sides(widths, heights, n, padding, proportion)?;
     in_grid(
-        &widths[0..n],
-        &heights[0..n],
+        &widths[..n],
+        &heights[..n],
         padding,
         proportion,
-        &mut xs[0..n],
-        &mut ys[0..n],
+        &mut xs[..n],
+        &mut ys[..n],
     );
+    Ok(())
 }
 
-fn pack_number(widths: &[f64], heights: &[f64], n: usize, padding: f64, proportion: f64) -> u8
-    requires { (length widths.now ≡ max_circles) × (length heights.now ≡ max_circles) }
-    ensures { result ≡ sides_number n widths.now heights.now padding proportion }
+fn check_sides(
+    widths: &[f64; MAX_CIRCLES],
+    heights: &[f64; MAX_CIRCLES],
+    n: usize,
+    padding: f64,
+    proportion: f64,
+) -> Result<(), Refusal>
+    ensures { number_if result ≡ sides_number n widths.now heights.now padding proportion }
 {
     let m = room(n);
-    number_of(
-        of_count(n)
-            | of_sides(&widths[0..m])
-            | of_sides(&heights[0..m])
-            | of_padding(padding)
-            | of_proportion(proportion),
-    )
+    refuse_first(&[
+        (too_many(n), Refusal::TooManyCircles),
+        (any_bad_side(&widths[..m]), Refusal::BadSide),
+        (any_bad_side(&heights[..m]), Refusal::BadSide),
+        (bad_padding(padding), Refusal::BadPadding),
+        (bad_proportion(proportion), Refusal::BadProportion),
+    ])
 }
 
 // ---- the grid, over lists of one length
@@ -318,10 +216,8 @@ fn areas_of(widths: &[f64], heights: &[f64], areas: &mut [f64])
     requires { (length heights.now ≡ length widths.now) × (length areas.old ≡ length widths.now) }
     ensures { At (length widths.now) areas.new nan (λ i. at widths.now i *ᶠ at heights.now i) }
 {
-    let mut i: usize = 0;
-    while i < areas.len() {
-        areas[i] = widths[i] * heights[i];
-        i += 1;
+    for (i, area) in areas.iter_mut().enumerate() {
+        *area = widths[i] * heights[i];
     }
 }
 
@@ -333,12 +229,10 @@ fn lines_of(areas: &[f64], proportion: f64, columns: &mut [usize], rows: &mut [u
         columns.new rows.new }
 {
     let count = columns_of(areas.len(), proportion);
-    let mut i: usize = 0;
-    while i < areas.len() {
+    for i in 0..areas.len() {
         let p = place(areas, i);
         columns[i] = p % count;
         rows[i] = p / count;
-        i += 1;
     }
 }
 
@@ -348,12 +242,10 @@ fn place(areas: &[f64], i: usize) -> usize
     ensures { result ≡ place (length areas.now) (at areas.now) i }
 {
     let mut count: usize = 0;
-    let mut j: usize = 0;
-    while j < areas.len() {
-        if goes_before(areas[i], i, areas[j], j) {
+    for (j, &area) in areas.iter().enumerate() {
+        if goes_before(areas[i], i, area, j) {
             count += 1;
         }
-        j += 1;
     }
     count
 }
@@ -394,12 +286,9 @@ fn centres_of(sides: &[f64], lines: &[usize], breadths: &[f64], cells: &[f64], c
         (λ i. centred (at cells.now (line_of lines.now i)) (at breadths.now (line_of lines.now i))
         (at sides.now i)) }
 {
-    let mut i: usize = 0;
-    while i < sides.len() {
+    for (i, &side) in sides.iter().enumerate() {
         let line = lines[i];
-        let side = sides[i];
         centres[i] = cells[line] + (breadths[line] - side) / 2.0 + side / 2.0;
-        i += 1;
     }
 }
 
@@ -410,22 +299,15 @@ fn breadths_of(sides: &[f64], lines: &[usize], padding: f64, breadths: &mut [f64
         (breadth (length sides.now) (line_of lines.now) (at sides.now) padding) }
 {
     clear(breadths);
-    let mut i: usize = 0;
-    while i < sides.len() {
-        let line = lines[i];
-        breadths[line] = maximum(breadths[line], sides[i] + padding);
-        i += 1;
+    for (&line, side) in lines.iter().zip(sides) {
+        breadths[line] = maximum(breadths[line], side + padding);
     }
 }
 
 fn clear(list: &mut [f64])
     ensures { At (length list.old) list.new nan (λ _. nought) }
 {
-    let mut i: usize = 0;
-    while i < list.len() {
-        list[i] = 0.0;
-        i += 1;
-    }
+    list.fill(0.0);
 }
 
 // Where each line starts: the widths before it, summed in order.
@@ -434,11 +316,9 @@ fn starts_of(breadths: &[f64], cells: &mut [f64])
     ensures { At (length cells.old) cells.new nan (start (at breadths.now)) }
 {
     let mut sum = 0.0;
-    let mut j: usize = 0;
-    while j < cells.len() {
-        cells[j] = sum;
-        sum = sum + breadths[j];
-        j += 1;
+    for (j, cell) in cells.iter_mut().enumerate() {
+        *cell = sum;
+        sum += breadths[j];
     }
 }
 

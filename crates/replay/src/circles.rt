@@ -1,61 +1,38 @@
 // Distances and tests of circles: the refusal's number, then the answers, which are 0 after a refusal.
-use crate::read;
-use geometry::circle::Decided;
-use geometry::point::Measured;
+use crate::body::Body;
 use geometry::{circle, point};
 
 // Two points, the refusal, the distance.
-pub fn distance_agrees(body: &[u8]) -> bool {
-    if body.len() != 41 {
-        return false;
-    }
-    measured(
-        body,
-        32,
-        33,
-        point::distance(read::point(body, 0), read::point(body, 16)),
-    )
+pub fn distance_agrees(mut body: Body<'_>) -> Option<()> {
+    let a = body.point()?;
+    let b = body.point()?;
+    let distance = point::distance(a, b);
+    body.is_refusal(&distance)?;
+    body.is_result(distance.unwrap_or(0.0))?;
+    body.ends()
 }
 
 // Two circles, the refusal, the distance, whether the first contains the second, whether they intersect.
-pub fn pair_agrees(body: &[u8]) -> bool {
-    if body.len() != 63 {
-        return false;
-    }
-    let a = read::circle(body, 0);
-    let b = read::circle(body, 26);
-    measured(body, 52, 53, circle::distance(a, b))
-        && decided(body, 52, 61, circle::contains(a, b))
-        && decided(body, 52, 62, circle::intersects(a, b))
+pub fn pair_agrees(mut body: Body<'_>) -> Option<()> {
+    let a = body.circle()?;
+    let b = body.circle()?;
+    let distance = circle::distance(a, b);
+    let contains = circle::contains(a, b);
+    let intersects = circle::intersects(a, b);
+    body.is_refusal(&distance)?;
+    (contains.err() == distance.err() && intersects.err() == distance.err()).then_some(())?;
+    body.is_result(distance.unwrap_or(0.0))?;
+    body.is_byte(u8::from(contains.unwrap_or(false)))?;
+    body.is_byte(u8::from(intersects.unwrap_or(false)))?;
+    body.ends()
 }
 
 // A circle, a point, the refusal, whether the circle contains the point.
-pub fn point_agrees(body: &[u8]) -> bool {
-    if body.len() != 44 {
-        return false;
-    }
-    decided(
-        body,
-        42,
-        43,
-        circle::contains_point(read::circle(body, 0), read::point(body, 26)),
-    )
-}
-
-fn measured(body: &[u8], refusal: usize, at: usize, answer: Measured) -> bool {
-    match answer {
-        Measured::Of(x) => read::byte(body, refusal) == 0 && read::is_result(body, at, x),
-        Measured::Refused(k) => read::byte(body, refusal) == k && read::is_result(body, at, 0.0),
-    }
-}
-
-fn decided(body: &[u8], refusal: usize, at: usize, answer: Decided) -> bool {
-    match answer {
-        Decided::Is(yes) => read::byte(body, refusal) == 0 && read::byte(body, at) == number(yes),
-        Decided::Refused(k) => read::byte(body, refusal) == k && read::byte(body, at) == 0,
-    }
-}
-
-fn number(yes: bool) -> u8 {
-    if yes { 1 } else { 0 }
+pub fn point_agrees(mut body: Body<'_>) -> Option<()> {
+    let c = body.circle()?;
+    let p = body.point()?;
+    let contains = circle::contains_point(c, p);
+    body.is_refusal(&contains)?;
+    body.is_byte(u8::from(contains.unwrap_or(false)))?;
+    body.ends()
 }

@@ -1,11 +1,11 @@
 // The hypot alone, of any two numbers: it refuses none.
-use crate::read;
+use crate::body::Body;
 use root::hypot::hypot;
 
 // Two numbers, the hypot. It is never -0, so a zero's sign counts here.
-pub fn hypot_agrees(body: &[u8]) -> bool {
-    if body.len() != 24 {
-        return false;
-    }
-    read::word(body, 16) == bits::pattern_of(hypot(read::float(body, 0), read::float(body, 8)))
+pub fn hypot_agrees(mut body: Body<'_>) -> Option<()> {
+    let x = body.float()?;
+    let y = body.float()?;
+    body.is_word(bits::pattern_of(hypot(x, y)))?;
+    body.ends()
 }

@@ -13,9 +13,9 @@ use Rattle.rounding.specs.Root.{root}
 use Rattle.rounding.specs.Value.{negative, Fin}
 use Rattle.scope.specs.Refusals.{causes, cause_holds, first, refusal, refused, given, answer}
 use Rattle.scope.specs.Distance.{no_root, root_refusal, root_answer}
-use Rattle.root.specs.declared.answers.Root.{Root}
-use Rattle.root.specs.declared.answers.Root.TheVariants.{Of, Refused}
-use Rattle.root.specs.Answer.{rooted}
+use Rattle.std.specs.Prelude.{Result, Ok, Err}
+use Rattle.refusals.specs.declared.Refusal.{Refusal}
+use Rattle.refusals.specs.Numbers.{answer_of}
 
 -- ---- scope's answer, where there is a root and where not
 
@@ -58,15 +58,15 @@ root_of_none (fin false (suc m) e) h = absurd (false≢true (sym (no_root_by_sig
 -- ---- the answer of the code
 
 -- every value that is neither NaN nor has a sign, so +infinity too
-pub root_not_below : (x : Float) (r : Root) → rooted r ≡ root_answer x → (x ≡ nan → ⊥) → negative x ≡ false → r ≡ Of (root binary64 x)
+pub root_not_below : (x : Float) (r : Result Float Refusal) → answer_of r ≡ root_answer x → (x ≡ nan → ⊥) → negative x ≡ false → r ≡ Ok (root binary64 x)
 root_not_below x r e n s = is_given r (e ∙ answer-given x (unsigned_has_root x n s))
   where
-    is_given : (r : Root) → rooted r ≡ given (root binary64 x) → r ≡ Of (root binary64 x)
-    is_given (Of y) e = cc
-    is_given (Refused k) e = cc
+    is_given : (r : Result Float Refusal) → answer_of r ≡ given (root binary64 x) → r ≡ Ok (root binary64 x)
+    is_given (Ok y) e = cc
+    is_given (Err k) e = cc
 
 -- every finite value of the format that has no sign
-pub root-finite : (x : Float) (r : Root) → rooted r ≡ root_answer x → Fin binary64 x → negative x ≡ false → r ≡ Of (root binary64 x)
+pub root-finite : (x : Float) (r : Result Float Refusal) → answer_of r ≡ root_answer x → Fin binary64 x → negative x ≡ false → r ≡ Ok (root binary64 x)
 unfolding Fin is_nan
 root-finite nan r e h s = absurd h
 root-finite (inf t) r e h s = absurd h

@@ -6,39 +6,38 @@ ghost use Rattle.std.specs.Float.{binary64};
 ghost use Rattle.std.specs.Float.Ieee.{of_bits};
 ghost use Rattle.rounding.specs.Root.{root};
 ghost use Rattle.scope.specs.Distance.{root_answer};
-ghost use Rattle.root.specs.Answer.{rooted};
+ghost use Rattle.refusals.specs.Numbers.{answer_of};
 ghost use Rattle.root.specs.Parts.{infinity};
 
-pub mod answers;
 pub mod hypot;
 mod pattern;
 mod squares;
 mod whole;
 
-use answers::Root;
 use pattern::{INFINITY, SIGN};
+use refusals::Refusal;
 
 // The f64 nearest the exact root; -0 gives -0, and +infinity itself. NaN and a number below 0 are refused, by 12.
 #[tactic(auto, using(crate::proofs::AnswerLaws::root_tests))]
-pub fn root(x: f64) -> Root
-    ensures { rooted result ≡ root_answer x }
+pub fn root(x: f64) -> Result<f64, Refusal>
+    ensures { answer_of result ≡ root_answer x }
 {
     if x != x {
-        return Root::Refused(12);
+        return Err(Refusal::NoRoot);
     }
     let b = f64::to_bits(x);
     // The patterns above that of -0 are those of the numbers below 0, in falling order.
     if SIGN < b {
-        return Root::Refused(12);
+        return Err(Refusal::NoRoot);
     }
     if b == 0 {
-        return Root::Of(x);
+        return Ok(x);
     }
     // No NaN is left, so only +infinity and -0 are.
     if INFINITY <= b {
-        return Root::Of(x);
+        return Ok(x);
     }
-    Root::Of(positive(b))
+    Ok(positive(b))
 }
 
 // The root of the number above 0 that has the pattern b.

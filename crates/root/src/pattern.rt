@@ -9,7 +9,7 @@ pub const INFINITY: u64 = 9218868437227405312;
 // The sign alone: the pattern of -0.
 pub const SIGN: u64 = 9223372036854775808;
 
-// digits * 2^exponent is the value, as a multiple of 2^-1126. There are 53 digits.
+// digits * 2^exponent is the value, as a multiple of what the function says.
 #[derive(Clone, Copy)]
 pub struct Scaled {
     pub digits: u64,
@@ -23,25 +23,18 @@ pub struct Parts {
     pub half: u64,
 }
 
-// digits * 2^exponent is the value in units of 2^-1074, as the pattern has it: the exponent is 0 below the smallest normal number, and there are 53 digits from
-// there on.
-#[derive(Clone, Copy)]
-pub struct Units {
-    pub digits: u64,
-    pub exponent: u64,
-}
-
-pub fn in_units(b: u64) -> Units
+// The value in units of 2^-1074, as the pattern has it: the exponent is 0 below the smallest normal number, and there are 53 digits from there on.
+pub fn in_units(b: u64) -> Scaled
     requires { b < infinity }
     ensures { IsUnits b result.digits result.exponent }
 {
     if b < LEADING {
-        return Units {
+        return Scaled {
             digits: b,
             exponent: 0,
         };
     }
-    Units {
+    Scaled {
         digits: LEADING + b % LEADING,
         exponent: b / LEADING - 1,
     }
@@ -66,6 +59,7 @@ pub fn split(b: u64) -> Parts
     }
 }
 
+// The value as a multiple of 2^-1126, with 53 digits.
 fn normal(b: u64) -> Scaled
     requires { (0 < b) × (b < infinity) }
     ensures { IsNormal b result.digits result.exponent }

@@ -14,7 +14,7 @@ ghost use Rattle.shapes.specs.Lift.{lifted_circle};
 ghost use Rattle.rundhefja.specs.Answers.{shared_of};
 
 use crate::answers::Shared;
-use shapes::bounds::{Bounds, Corners, Overlap};
+use shapes::bounds::{Bounds, Corners};
 use shapes::circle::Circle;
 use shapes::rectangle::Rectangle;
 
@@ -51,17 +51,7 @@ pub fn rundhefja_bounds_union(a: Bounds, b: Bounds) -> Bounds
 pub fn rundhefja_bounds_intersection(a: Bounds, b: Bounds) -> Shared
     ensures { result ≡ shared_of (overlap_of a b) }
 {
-    let overlap = a.intersection(b);
-    match overlap {
-        Overlap::Box(bounds) => Shared {
-            empty: false,
-            bounds,
-        },
-        Overlap::Empty => Shared {
-            empty: true,
-            bounds: Bounds::new(0.0, 0.0, 0.0, 0.0),
-        },
-    }
+    a.intersection(b).into()
 }
 
 pub fn rundhefja_circle_bounds(c: Circle) -> Bounds

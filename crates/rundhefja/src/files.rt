@@ -4,12 +4,12 @@ ghost use Rattle.scope.specs.CardFile.{read_field, field_body};
 ghost use Rattle.scope.specs.Saving.{card_of, write_card, write_text};
 ghost use Rattle.card_file.specs.Answers.{field_answer};
 ghost use Rattle.card_file.specs.Parts.{body_place};
-ghost use Rattle.card_output.specs.Saving.{saved, ReadsBack};
-ghost use Rattle.rundhefja.specs.Answers.{field_read};
+ghost use Rattle.rundhefja.specs.Answers.{field_read, saved_of, ReadsBack};
 
-use crate::answers::FieldRead;
+use crate::answers::{FieldRead, Written};
 use card_file::fields::{Field, HEAD_LENGTH, field_body, read_field};
-use card_output::{Written, write_card, write_text};
+use card_output::{write_card, write_text};
+use refusals::Refusal;
 use shapes::circle::Circle;
 use shapes::point::Point;
 
@@ -31,18 +31,18 @@ pub fn rundhefja_write_card(
     patterns: &[u64],
     out: &mut [u8],
 ) -> Written
-    ensures { (saved result out.new
+    ensures { (saved_of result out.new
         ≡ write_card (card_of factor circles.now masks.now patterns.now) out.old)
         × ReadsBack (card_of factor circles.now masks.now patterns.now) result out.new }
 {
-    write_card(circles, factor, masks, patterns, out)
+    write_card(circles, factor, masks, patterns, out).into()
 }
 
 // The text, put into a lent list: 4,096 bytes are enough for any.
 pub fn rundhefja_card_text(input: &[u8], text: &mut [u8]) -> Written
-    ensures { saved result text.new ≡ write_text input.now text.old }
+    ensures { saved_of result text.new ≡ write_text input.now text.old }
 {
-    write_text(input, text)
+    write_text(input, text).into()
 }
 
 // ---- a field's value in its parts
@@ -54,7 +54,7 @@ fn body_length(file: &[u8], at: usize) -> usize
     body.len()
 }
 
-fn field_read(field: Field, start: usize, length: usize) -> FieldRead
+fn field_read(field: Result<Field, Refusal>, start: usize, length: usize) -> FieldRead
     ensures { result ≡ field_read (field_answer field) start length }
 {
     let mut read = FieldRead {
@@ -72,16 +72,16 @@ fn field_read(field: Field, start: usize, length: usize) -> FieldRead
         body_length: length,
     };
     match field {
-        Field::Refused(refusal) => read.refusal = refusal,
-        Field::Factor(factor) => {
+        Err(refusal) => read.refusal = refusal.number(),
+        Ok(Field::Factor(factor)) => {
             read.tag = 1;
             read.factor = factor;
         }
-        Field::Circle(circle) => {
+        Ok(Field::Circle(circle)) => {
             read.tag = 2;
             read.circle = circle;
         }
-        Field::Region(mask, area) => {
+        Ok(Field::Region(mask, area)) => {
             read.tag = 3;
             read.mask = mask;
             read.area = area;

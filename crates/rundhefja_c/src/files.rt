@@ -3,11 +3,9 @@ ghost use Rattle.std.specs.Prelude.{◌≡◌, length, take, drop};
 ghost use Rattle.scope.specs.CardFile.{read_field, field_body};
 ghost use Rattle.scope.specs.Saving.{card_of, write_card, write_text};
 ghost use Rattle.card_file.specs.Parts.{body_place};
-ghost use Rattle.card_output.specs.Saving.{saved, ReadsBack};
-ghost use Rattle.rundhefja.specs.Answers.{field_read};
+ghost use Rattle.rundhefja.specs.Answers.{field_read, saved_of, ReadsBack};
 
-use card_output::Written;
-use rundhefja::answers::FieldRead;
+use rundhefja::answers::{FieldRead, Written};
 use shapes::circle::Circle;
 
 // The field, and its body as a place in the file and a length: both 0 where the field is refused.
@@ -28,7 +26,7 @@ pub extern "C" fn rundhefja_write_card(
     patterns: &[u64],
     out: &mut [u8],
 ) -> Written
-    ensures { (saved result out.new
+    ensures { (saved_of result out.new
         ≡ write_card (card_of factor circles.now masks.now patterns.now) out.old)
         × ReadsBack (card_of factor circles.now masks.now patterns.now) result out.new }
 {
@@ -38,7 +36,7 @@ pub extern "C" fn rundhefja_write_card(
 // The text, put into a lent list: 4,096 bytes are enough for any.
 #[unsafe(no_mangle)]
 pub extern "C" fn rundhefja_card_text(input: &[u8], text: &mut [u8]) -> Written
-    ensures { saved result text.new ≡ write_text input.now text.old }
+    ensures { saved_of result text.new ≡ write_text input.now text.old }
 {
     rundhefja::files::rundhefja_card_text(input, text)
 }

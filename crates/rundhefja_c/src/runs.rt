@@ -9,24 +9,18 @@ ghost use Rattle.scope.specs.CardStock.{card_stock};
 ghost use Rattle.scope.specs.Touch.{touched};
 ghost use Rattle.scope.specs.Promises.{Promises};
 ghost use Rattle.promises.specs.Demand3.{bound};
-ghost use Rattle.clustering.specs.Answers.{grouped, NumbersByChains};
-ghost use Rattle.packing.specs.Answers.{packed_boxes};
-ghost use Rattle.layout.specs.Answers.{result_of, placed_of};
-ghost use Rattle.card_stock.specs.Answers.{charge_of};
+ghost use Rattle.clustering.specs.Answers.{NumbersByChains};
 ghost use Rattle.touch.specs.Answers.{touch_of};
+ghost use Rattle.rundhefja.specs.Answers.{grouping_of, packing_of, placed_of, outcome_of, amount_of};
 
-use card_stock::Charge;
-use clustering::Clusters;
-use layout::container::Placed;
-use layout::normalize::Result;
-use packing::Packed;
+use rundhefja::answers::{Charge, Clusters, Laid, Packed, Placed};
 use shapes::circle::Circle;
 use shapes::point::Point;
 use shapes::rectangle::Rectangle;
 
 #[unsafe(no_mangle)]
 pub extern "C" fn rundhefja_clusters(circles: &[Circle]) -> Clusters
-    ensures { grouped result ≡ plain_grouping circles.now }
+    ensures { grouping_of result ≡ plain_grouping circles.now }
 {
     rundhefja::runs::rundhefja_clusters(circles)
 }
@@ -38,7 +32,7 @@ pub extern "C" fn rundhefja_area_clusters(
     areas: &[f64],
     tolerance: f64,
 ) -> Clusters
-    ensures answer { grouped result ≡ area_grouping n masks.now areas.now tolerance }
+    ensures answer { grouping_of result ≡ area_grouping n masks.now areas.now tolerance }
     ensures chains { result.refusal ≡ 0 → NumbersByChains n tolerance (regions masks.now areas.now) result.numbers }
 {
     rundhefja::runs::rundhefja_area_clusters(n, masks, areas, tolerance)
@@ -46,7 +40,7 @@ pub extern "C" fn rundhefja_area_clusters(
 
 #[unsafe(no_mangle)]
 pub extern "C" fn rundhefja_pack(rectangles: &[Rectangle], padding: f64, proportion: f64) -> Packed
-    ensures { packed_boxes result ≡ skyline_pack rectangles.now padding proportion }
+    ensures { packing_of result ≡ skyline_pack rectangles.now padding proportion }
 {
     rundhefja::runs::rundhefja_pack(rectangles, padding, proportion)
 }
@@ -66,10 +60,10 @@ pub extern "C" fn rundhefja_layout(
     masks: &[u64],
     areas: &[f64],
     proportion: f64,
-) -> Result
-    ensures { (result_of result ≡ (layout circles.old factor masks.now areas.now proportion).result)
+) -> Laid
+    ensures { (outcome_of result ≡ (layout circles.old factor masks.now areas.now proportion).result)
         × (circles.new ≡ (layout circles.old factor masks.now areas.now proportion).circles)
-        × (result.refusal ≡ 0 → Promises bound circles.old (regions masks.now areas.now) (result_of result) circles.new) }
+        × (result.refusal ≡ 0 → Promises bound circles.old (regions masks.now areas.now) (outcome_of result) circles.new) }
 {
     rundhefja::runs::rundhefja_layout(circles, factor, masks, areas, proportion)
 }
@@ -83,7 +77,7 @@ pub extern "C" fn rundhefja_card_stock(
     proportion: f64,
     cents: u64,
 ) -> Charge
-    ensures { charge_of result ≡ card_stock circles.now factor masks.now areas.now proportion cents }
+    ensures { amount_of result ≡ card_stock circles.now factor masks.now areas.now proportion cents }
 {
     rundhefja::runs::rundhefja_card_stock(circles, factor, masks, areas, proportion, cents)
 }

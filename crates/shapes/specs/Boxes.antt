@@ -1,12 +1,10 @@
 -- Document 01, "Container and bounds.rs": the functions of bounds.rs, and the boxes of a circle and of a rectangle. Each operation is that of binary64.
-use Rattle.std.specs.Prelude.{Bool, false, ◌&&◌, cond, pos, Float}
+use Rattle.std.specs.Prelude.{Bool, false, ◌&&◌, cond, pos, Float, Option, Some, None}
 use Rattle.std.specs.Float.{fin, binary64}
 use Rattle.std.specs.Float.Ieee.{add, sub, mul, div, lt}
 use Rattle.rounding.specs.Extremes.{minimum, maximum}
 use Rattle.shapes.specs.declared.bounds.Bounds.{Bounds}
 use Rattle.shapes.specs.declared.bounds.Corners.{Corners}
-use Rattle.shapes.specs.declared.bounds.Overlap.{Overlap}
-use Rattle.shapes.specs.declared.bounds.Overlap.TheVariants.{Box, Empty}
 use Rattle.shapes.specs.declared.point.Point.{Point}
 use Rattle.shapes.specs.declared.circle.Circle.{Circle}
 use Rattle.shapes.specs.declared.rectangle.Rectangle.{Rectangle}
@@ -41,9 +39,9 @@ shared_box a b = ends_by maximum minimum a b
 unfoldable pub proper : Bounds → Bool
 proper b = lt b.x_min b.x_max && lt b.y_min b.y_max
 
--- the intersection: the shared box if it is proper, and else empty, a case of its own
-unfoldable pub overlap_of : Bounds → Bounds → Overlap
-overlap_of a b = cond (proper (shared_box a b)) (Box (shared_box a b)) Empty
+-- the intersection: the shared box if it is proper, and else none
+unfoldable pub overlap_of : Bounds → Bounds → Option Bounds
+overlap_of a b = cond (proper (shared_box a b)) (Some (shared_box a b)) None
 
 -- the point less and plus w across, less and plus h up
 abbrev pub box_around : Point → Float → Float → Bounds

@@ -22,13 +22,6 @@ pub struct Corners {
     pub top_right: Point,
 }
 
-// What two boxes share: a box, or nothing.
-#[derive(Clone, Copy)]
-pub enum Overlap {
-    Box(Bounds),
-    Empty,
-}
-
 impl Bounds {
     pub fn new(x_min: f64, x_max: f64, y_min: f64, y_max: f64) -> Self
         ensures { result ≡ box_of x_min x_max y_min y_max }
@@ -80,8 +73,8 @@ impl Bounds {
         }
     }
 
-    // Boxes that only touch share nothing.
-    pub fn intersection(self, other: Bounds) -> Overlap
+    // What two boxes share, if anything: boxes that only touch share nothing.
+    pub fn intersection(self, other: Bounds) -> Option<Bounds>
         ensures { result ≡ overlap_of self other }
     {
         let x_min = maximum(self.x_min, other.x_min);
@@ -89,14 +82,14 @@ impl Bounds {
         let y_min = maximum(self.y_min, other.y_min);
         let y_max = minimum(self.y_max, other.y_max);
         if x_min < x_max && y_min < y_max {
-            Overlap::Box(Bounds {
+            Some(Bounds {
                 x_min,
                 x_max,
                 y_min,
                 y_max,
             })
         } else {
-            Overlap::Empty
+            None
         }
     }
 }

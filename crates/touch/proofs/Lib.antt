@@ -1,3 +1,1 @@
 pub mod Touching
-pub mod FrontTouches
-pub mod Shown

@@ -2,30 +2,33 @@
 use Prim.Native.Nat.{ℕ, ◌+◌, ◌*◌, ◌%◌, ◌^◌, ◌≤◌, ◌<◌}
 use native.Mathlib.Omega.{arith}
 use native.Mathlib.Numerals.{add-one}
-use mathlib.Core.Path.{◌≡◌, refl, ap, ◌∙◌}
+use mathlib.Core.Path.{◌≡◌, refl, sym, ap, ◌∙◌}
 use mathlib.Core.Logic.{◌⊎◌, ⊎_elim}
 use mathlib.Core.Bool.{Bool, true, false, cond}
-use mathlib.Core.List.{List}
-use lib.ListN.{length, get_or, set, length-map, get_or-map}
+use mathlib.Core.List.{List, [], ◌∷◌, ◌++◌, map}
+use lib.ListN.{length, get_or, set, drop, length-map, get_or-map}
 use lib.Seq.{take_all}
 use lib.Ieee.{Float}
 use Rattle.shapes.specs.declared.point.Point.{Point}
-use Rattle.shapes.specs.Records.{point_at}
+use Rattle.shapes.specs.declared.circle.Circle.{Circle}
 use Rattle.scope.specs.Numbers.{◌-ᶠ◌}
 use Rattle.scope.specs.Runs.{gather}
 use Rattle.scope.specs.Links.{circle}
 use Rattle.scope.specs.Distance.{contains_point}
 use Rattle.scope.specs.PackedRows.{packed_row}
 use Rattle.scope.specs.Touch.{touch_mask}
-use Rattle.laws.specs.Touch.{no_point}
+use Rattle.scope.specs.Limits.{circle_cap}
+use Rattle.scope.specs.Refusals.{inks, touch_refusal}
+use Rattle.laws.proofs.Accepted.{not_too_many_iff}
+use Rattle.laws.proofs.EntryPoints.{touch_reads}
+use Rattle.laws.proofs.Touch.{touch_blind, not_too_few_answers_iff}
 use Rattle.laws.proofs.MaskBits.{put_fits}
 use Rattle.laws.proofs.PackedRows.{packed-small, single_shifted}
-use Rattle.laws.proofs.Runs.{length-tab, get_or_tab}
-use Rattle.intake.specs.Columns.{at, circles_of, points_of, overwritten}
-use Rattle.intake.proofs.Columns.{length_shown, shown_at}
+use Rattle.intake.specs.Limits.{max_circles}
+use Rattle.intake.specs.Columns.{at, circles_of, xs_of, ys_of, radii_of, overwritten}
+use Rattle.intake.proofs.Columns.{length_shown, shown_at, shown_back}
 use Rattle.intake.proofs.Overwriting.{over, over_next}
 use Rattle.geometry.specs.Lengths.{HoldsBy}
-use Rattle.touch.specs.Answers.{masks_of}
 
 -- ---- one point over the circles of three lists
 module _ (xs ys rs : List Float) (p : Point) where
@@ -61,25 +64,36 @@ module _ (xs ys rs : List Float) (p : Point) where
   unfolding touch_mask
   mask_all j low high e = let all : j ≡ length xs = omega arith in e ∙ rw (all, length_shown xs ys rs)
 
--- ---- a batch over the points of two lists
-module _ (xs ys rs across up : List Float) where
-  abbrev masks : List ℕ
-  masks = masks_of xs ys rs across up
+-- ---- a batch over points: the first i answers put, and all of them
+module _ (mask : Point → ℕ) (ps : List Point) (out : List ℕ) (room : length ps ≤ length out) where
+  pub answer_put : (i : ℕ) (d : Point) {l : List ℕ} {m : ℕ} → i < length ps → l ≡ over i (map mask ps) out → m ≡ mask (get_or ps i d) → set l i m ≡ over (i + 1) (map mask ps) out
+  answer_put i d h e f =
+      rw (e, f, add-one, ← get_or-map mask ps i d) (over_next i (map mask ps) out (mask d) (rw (length-map ps mask) h) (omega arith))
 
-  pub length-masks : length masks ≡ length across
-  unfolding points_of
-  length-masks = length-map (points_of across up) (touch_mask (circles_of xs ys rs)) ∙ length-tab (length across) _
-
-  mask_is : (i : ℕ) → i < length across → get_or masks i (touch_mask (circles_of xs ys rs) no_point) ≡ touch_mask (circles_of xs ys rs) (point_at (at across i) (at up i))
-  unfolding points_of
-  mask_is i h =
-      get_or-map (touch_mask (circles_of xs ys rs)) (points_of across up) i no_point
-      ∙ ap (touch_mask (circles_of xs ys rs)) (get_or_tab (length across) (λ k. point_at (at across k) (at up k)) i no_point h)
-
-  pub answer_put : (i : ℕ) (out : List ℕ) {l : List ℕ} {m : ℕ} → i < length across → length across ≤ length out → l ≡ over i masks out
-      → m ≡ touch_mask (circles_of xs ys rs) (point_at (at across i) (at up i)) → set l i m ≡ over (i + 1) masks out
-  answer_put i out h room e f = rw (e, f, add-one, ← mask_is i h) (over_next i masks out _ (rw length-masks h) (omega arith))
-
-  pub answers_all : (i : ℕ) (out : List ℕ) {l : List ℕ} → i ≤ length across → length across ≤ i → l ≡ over i masks out → l ≡ overwritten masks out
+  pub answers_all : (i : ℕ) {l : List ℕ} → i ≤ length ps → length ps ≤ i → l ≡ over i (map mask ps) out → l ≡ overwritten (map mask ps) out
   unfolding overwritten
-  answers_all i out low high e = let all : i ≡ length across = omega arith in e ∙ rw (all, length-masks, take_all (length across) masks (rw length-masks (omega arith)))
+  answers_all i low high e =
+      let all : i ≡ length ps = omega arith in
+      e ∙ rw (all, length-map ps mask, take_all (length ps) (map mask ps) (rw (length-map ps mask) (omega arith)))
+
+-- no circle's ink counts
+map_equal : (f g : Point → ℕ) → ((p : Point) → f p ≡ g p) → (ps : List Point) → map f ps ≡ map g ps
+map_equal f g e [] = refl
+map_equal f g e (p ∷ ps) = rw (e p, map_equal f g e ps)
+
+pub masks_shown : (cs : List Circle) (ps : List Point) (out : List ℕ)
+    → overwritten (map (touch_mask (circles_of (xs_of cs) (ys_of cs) (radii_of cs))) ps) out ≡ map (touch_mask cs) ps ++ drop (length ps) out
+unfolding overwritten
+masks_shown cs ps out =
+    let bare = circles_of (xs_of cs) (ys_of cs) (radii_of cs) in
+    let same : map (touch_mask bare) ps ≡ map (touch_mask cs) ps =
+    map_equal _ _ (λ p. sym (touch_blind (inks cs) bare p) ∙ ap (λ (l : List Circle). touch_mask l p) (shown_back cs)) ps in
+    rw (length-map ps (touch_mask bare)) (ap (λ (l : List ℕ). l ++ drop (length ps) out) same)
+
+-- accepted: as many circles as there may be, and room for all answers
+pub accepted_counts : (cs : List Circle) (ps : List Point) (out : List ℕ) → touch_refusal cs ps (length ps) (length out) ≡ 0
+    → (length cs ≤ max_circles) × (length ps ≤ length out)
+unfolding circle_cap
+accepted_counts cs ps out z =
+    let none = (touch_reads cs ps (length ps) (length out)).accepted.0 z in
+    ((not_too_many_iff (length cs)).0 none.0, (not_too_few_answers_iff (length out) (length ps)).0 none.1.1.1.1.1.0)

@@ -8,6 +8,6 @@ pub returns-then-x : goal.returns-then-x
 unfolding bits_of of_bits
 returns-then-x c = rw c.if-x.true
 
-pub returns : goal.returns
+pub returns-else-x : goal.returns-else-x
 unfolding bits_of of_bits
-returns c = c.pattern_of.ensures ∙ rw c.if-x.false
+returns-else-x c = c.pattern_of.ensures ∙ rw c.if-x.false

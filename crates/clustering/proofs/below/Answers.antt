@@ -1,14 +1,10 @@
 -- `below` meets its contract.
 use native.Mathlib.Omega.{arith}
 use mathlib.Core.Path.{◌≡◌}
-use lib.Pow.{pow_pos}
 use Rattle.laws.proofs.PackedRows.{single_shifted}
 use Rattle.intake.specs.Limits.{max_circles}
 use Rattle.clustering.proofs.Places.{bit_below}
 use Rattle.clustering.proofs.below.Goals as goal
-
-pub overflow_sub-result : goal.overflow_sub-result
-overflow_sub-result c = let n = c.args.n in rw (single_shifted max_circles n c.if-n-lt-MAX_CIRCLES.true) (omega (arith, pow_pos n))
 
 pub returns-then-n-lt-MAX_CIRCLES : goal.returns-then-n-lt-MAX_CIRCLES
 returns-then-n-lt-MAX_CIRCLES c = let n = c.args.n in rw (single_shifted max_circles n c.if-n-lt-MAX_CIRCLES.true) (bit_below n)

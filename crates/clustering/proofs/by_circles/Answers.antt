@@ -6,8 +6,6 @@ use Rattle.scope.specs.Closure.{marked, closure}
 use Rattle.scope.specs.Groups.{plain_clusters}
 use Rattle.laws.proofs.Clusters.{circles_equivalence}
 use Rattle.intake.specs.Limits.{max_circles}
-use Rattle.intake.specs.Columns.{circles_of}
-use Rattle.intake.proofs.Columns.{length_shown}
 use Rattle.clustering.proofs.Table.{shows-none, shows-marked}
 use Rattle.clustering.proofs.by_circles.Goals as goal
 
@@ -17,10 +15,8 @@ link_selves-requires c = (omega arith, shows-none _ max_circles max_circles (ome
 pub returns : goal.returns
 unfolding plain_clusters
 returns c =
-    let a = c.args in
-    let n = length a.xs.now in
-    let cs = circles_of a.xs.now a.ys.now a.radii.now in
-    let long = length_shown a.xs.now a.ys.now a.radii.now in
+    let cs = c.args.circles.now in
+    let n = length cs in
     let links = linked_by_circles cs in
-    rw long
-    (c.numbered.ensures (closure n (marked n links)) (c.close.ensures (marked n links) (shows-marked links c.link_circles.ensures)) (rw long at (circles_equivalence cs)))
+    let closed = c.close.ensures (marked n links) (shows-marked links c.link_circles.ensures) in
+    c.numbered.ensures (closure n (marked n links)) closed (circles_equivalence cs)

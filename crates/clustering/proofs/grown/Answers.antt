@@ -1,5 +1,4 @@
 -- `grown` meets its contract: all that the row holds is reached from i, and it holds the links of each place that has been joined to it.
-use native.Mathlib.Omega.{arith}
 use Rattle.laws.proofs.PackedRows.{single_shifted}
 use Rattle.clustering.proofs.Growing.{left_all, left_new, fewer_left, fewer_left_still, grown-start, grown-row, grown_closed, grown_end}
 use Rattle.clustering.proofs.grown.Goals as goal
@@ -7,12 +6,6 @@ use Rattle.clustering.proofs.grown.Goals.{then-k-i, else-k-i}
 
 pub loop-rest-init : goal.loop-rest-init
 loop-rest-init c = let hi = c.requires in (c.other_than-rest.ensures, λ n t hn h s. rw (single_shifted 64 _ hi) (grown-start n t _ _ h s))
-
-pub bounds-rows-k : goal.bounds-rows-k
-bounds-rows-k c = omega (arith, c.first_of-k.ensures.1 c.loop-rest-test.true)
-
-pub overflow_shl-joined-in-loop-rest : goal.overflow_shl-joined-in-loop-rest
-overflow_shl-joined-in-loop-rest c = c.first_of-k.ensures.1 c.loop-rest-test.true
 
 pub loop-rest-smaller : goal.loop-rest-smaller
 loop-rest-smaller c =

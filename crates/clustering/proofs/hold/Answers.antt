@@ -1,22 +1,7 @@
 -- `hold` meets its contract: the mask has been joined to the rows of its circles but those of `rest`.
 use Rattle.clustering.proofs.Places.{still_places}
-use Rattle.clustering.proofs.Rows.{mask_start, mask_step, mask_end}
+use Rattle.clustering.proofs.Rows.{mask_step, mask_end}
 use Rattle.clustering.proofs.hold.Goals as goal
-
-pub loop-rest-init : goal.loop-rest-init
-loop-rest-init c = (λ j h. h, λ n f hn s out. mask_start n _ f s)
-
-pub bounds-rows-i : goal.bounds-rows-i
-bounds-rows-i c = c.first_of-i.ensures.1 c.loop-rest-test.true
-
-pub bounds-rows-i-in-loop-rest : goal.bounds-rows-i-in-loop-rest
-bounds-rows-i-in-loop-rest c = c.first_of-i.ensures.1 c.loop-rest-test.true
-
-pub without_first-rest-requires : goal.without_first-rest-requires
-without_first-rest-requires c = c.loop-rest-test.true
-
-pub loop-rest-smaller : goal.loop-rest-smaller
-loop-rest-smaller c = c.without_first-rest.ensures.0
 
 pub loop-rest-preserved : goal.loop-rest-preserved
 loop-rest-preserved c =

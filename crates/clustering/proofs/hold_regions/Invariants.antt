@@ -1,12 +1,7 @@
 -- `hold_regions` meets its contract: the rows hold the links of the first k regions.
-use Prim.Native.Nat.{◌-◌, ◌≤◌}
-use lib.ListN.{length}
 use Rattle.clustering.specs.Table.{Holds}
 use Rattle.clustering.proofs.Linking.{first_links}
 use Rattle.clustering.proofs.hold_regions.Given as goal
 
 abbrev pub invariant-loop-k : goal.invariant-loop-k
-invariant-loop-k l = (l.k ≤ length l.masks) × Holds l.n l.rows (first_links l.tolerance l.masks l.areas l.k)
-
-abbrev pub decreases-loop-k : goal.decreases-loop-k
-decreases-loop-k l = length l.masks - l.k
+invariant-loop-k l = Holds l.n l.rows (first_links l.tolerance l.masks l.areas l.k)

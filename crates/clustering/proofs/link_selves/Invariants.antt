@@ -1,11 +1,7 @@
 -- `link_selves` meets its contract, circle by circle.
-use Prim.Native.Nat.{◌-◌, ◌≤◌}
 use Rattle.clustering.specs.Table.{Shows}
 use Rattle.clustering.proofs.Linking.{diagonal}
 use Rattle.clustering.proofs.link_selves.Given as goal
 
 abbrev pub invariant-loop-i : goal.invariant-loop-i
-invariant-loop-i l = (l.i ≤ l.n) × Shows l.n l.m (diagonal l.i)
-
-abbrev pub decreases-loop-i : goal.decreases-loop-i
-decreases-loop-i l = l.n - l.i
+invariant-loop-i l = Shows l.n l.m (diagonal l.i)

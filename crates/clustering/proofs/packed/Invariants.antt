@@ -1,5 +1,5 @@
 -- `packed` meets its contract: the marks before j are packed.
-use Prim.Native.Nat.{ℕ, ◌-◌, ◌≤◌, ◌<◌}
+use Prim.Native.Nat.{ℕ, ◌<◌}
 use mathlib.Core.Path.{◌≡◌}
 use mathlib.Core.Bool.{Bool}
 use Rattle.scope.specs.PackedRows.{packed_row}
@@ -7,7 +7,4 @@ use Rattle.clustering.specs.Table.{Shows}
 use Rattle.clustering.proofs.packed.Given as goal
 
 abbrev pub invariant-loop-j : goal.invariant-loop-j
-invariant-loop-j l = (l.j ≤ l.n) × ((f : ℕ → ℕ → Bool) → l.i < l.n → Shows l.n l.m f → l.row ≡ packed_row l.j (f l.i))
-
-abbrev pub decreases-loop-j : goal.decreases-loop-j
-decreases-loop-j l = l.n - l.j
+invariant-loop-j l = (f : ℕ → ℕ → Bool) → l.i < l.n → Shows l.n l.m f → l.row ≡ packed_row l.j (f l.i)

@@ -1,23 +1,18 @@
--- `tolerance` meets its contract: the largest area of the first k regions is known.
-use native.Mathlib.Omega.{arith}
-use mathlib.Core.Path.{◌∙◌}
+-- `tolerance` meets its contract.
+use Rattle.std.proofs.Common.{◌≡◌, rules}
 use lib.Ieee.{of_bits}
-use Rattle.scope.specs.Numbers.{e_10}
-use Rattle.clustering.proofs.Tolerances.{largest_all, largest_next, largest-none}
+use Rattle.std.specs.List.{fold}
+use Rattle.std.proofs.lemmas.Iterator.{YieldsList-from_slice}
+use Rattle.std.proofs.lemmas.Iterator.Consumers.{fold_from_yields_List}
+use Rattle.rounding.specs.Extremes.{maximum}
+use Rattle.scope.specs.Numbers.{e_10, nought, abs}
+use Rattle.clustering.proofs.Tolerances.{tolerance_folded}
 use Rattle.clustering.proofs.tolerance.Goals as goal
-
-pub loop-k-init : goal.loop-k-init
-unfolding of_bits
-loop-k-init c = (omega arith, λ ms e. largest-none ms c.args.areas.now)
-
-pub loop-k-preserved : goal.loop-k-preserved
-loop-k-preserved c =
-    let l = c.loop-k in
-    let largest = c.maximum-largest.ensures in
-    (omega arith, λ ms e. largest ∙ rw (c.absolute.ensures, l.invariant.1 ms e) (largest_next ms c.args.areas.now e l.k c.loop-k-test.true))
 
 pub returns : goal.returns
 unfolding of_bits e_10
 returns c =
-    let l = c.loop-k in
-    λ ms e. rw (c.maximum.ensures, l.invariant.1 ms e) (largest_all ms _ e l.k l.invariant.0 c.loop-k-test.false)
+    let folded : c.fold-largest.result ≡ fold (λ so_far x. maximum so_far (abs x)) nought c.args.areas.now =
+    fold_from_yields_List _ (λ so_far x. maximum so_far (abs x)) nought _
+    c.fold-largest.ensures.ran (YieldsList-from_slice c.args.areas.now cc) (λ a x b q k. search rules) in
+    λ ms e. rw c.maximum.ensures (tolerance_folded ms c.args.areas.now e folded)

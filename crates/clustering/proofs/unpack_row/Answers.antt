@@ -4,12 +4,6 @@ use Rattle.clustering.proofs.Places.{still_places}
 use Rattle.clustering.proofs.Packing.{places-start, places_more, places_end}
 use Rattle.clustering.proofs.unpack_row.Goals as goal
 
-pub loop-rest-init : goal.loop-rest-init
-loop-rest-init c = (λ j h. h, λ n f s. s)
-
-pub without_first-rest-requires : goal.without_first-rest-requires
-without_first-rest-requires c = c.loop-rest-test.true
-
 pub loop-rest-preserved : goal.loop-rest-preserved
 loop-rest-preserved c =
     let l = c.loop-rest in

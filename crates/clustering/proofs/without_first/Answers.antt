@@ -1,10 +1,6 @@
 -- `without_first` meets its contract.
-use native.Mathlib.Omega.{arith}
 use Rattle.clustering.proofs.Places.{without_first, smaller_without}
 use Rattle.clustering.proofs.without_first.Goals as goal
-
-pub overflow_sub-result : goal.overflow_sub-result
-overflow_sub-result c = omega (arith, c.requires)
 
 pub returns : goal.returns
 returns c = (smaller_without _ c.requires, λ i s j. without_first _ i j c.ranges.row.fits c.requires s)

@@ -1,35 +1,18 @@
 -- `breadths_of` meets its contract: after i boxes each line has the breadth of the first i.
-use Rattle.std.proofs.Common.{◌≡◌, length, arith, length-set}
+use Rattle.std.proofs.Common.{◌<◌, length, get_or, length-append}
+use lib.Ieee.{nan}
+use Rattle.std.proofs.lemmas.Slice.Zip.{zip_turn}
 use Rattle.packing.proofs.Grid.{breadths_none, breadths_next}
 use Rattle.packing.proofs.breadths_of.Goals as goal
 
-pub loop-i-init : goal.loop-i-init
-loop-i-init c = let p = c.requires in (omega arith, p.0, omega (arith, c.clear.auto), (p.2, breadths_none _ _ _ _ _ (rw p.1 at c.clear.ensures)))
+pub loop-line-init : goal.loop-line-init
+loop-line-init c = breadths_none _ _ _ _ _ (rw c.requires.1 at c.clear.ensures)
 
-pub offset_bounds-breadths-line : goal.offset_bounds-breadths-line
-offset_bounds-breadths-line c = let l = c.loop-i in omega (arith, l.invariant.3.0 l.i (omega arith))
-
-pub bounds-breadths-line : goal.bounds-breadths-line
-bounds-breadths-line c = let l = c.loop-i in omega (arith, l.invariant.3.0 l.i (omega arith))
-
-pub offset_bounds-breadths-line-in-loop-i : goal.offset_bounds-breadths-line-in-loop-i
-offset_bounds-breadths-line-in-loop-i c = let l = c.loop-i in omega (arith, l.invariant.3.0 l.i (omega arith))
-
-pub bounds-breadths-line-in-loop-i : goal.bounds-breadths-line-in-loop-i
-bounds-breadths-line-in-loop-i c = let l = c.loop-i in omega (arith, l.invariant.3.0 l.i (omega arith))
-
-pub loop-i-preserved : goal.loop-i-preserved
-loop-i-preserved c =
-    let l = c.loop-i in
-    let inside = l.invariant.3.0 l.i (omega arith) in (
-      omega arith,
-      l.invariant.1,
-      simp length-set l.invariant.2,
-      (l.invariant.3.0, rw c.maximum.ensures (breadths_next _ _ _ _ l.i l.breadths inside l.invariant.3.1)),
-    )
-
-pub returns : goal.returns
-returns c =
-    let l = c.loop-i in
-    let all : l.i ≡ length c.args.sides.now = omega arith in
-    rw all at l.invariant.3.1
+pub loop-line-preserved : goal.loop-line-preserved
+loop-line-preserved c =
+    let l = c.loop-line in
+    let i = length l.yielded in
+    let pair = zip_turn c.args.lines.now c.args.sides.now _ c.into_iter-line-iterator.result
+    _ c.next.new.self _ (cc) (cc) l.yielded_by _ c.in-Some.is c.next.ensures.steps in
+    let inside : get_or c.args.lines.now i 0 < length c.args.sides.now = c.requires.2 i pair.1 in
+    rw (c.maximum.ensures, pair.2 0, pair.3 nan, length-append) (breadths_next _ _ _ _ i l.breadths inside l.invariant)

@@ -1,5 +1,5 @@
 -- `centres_of` meets its contract, box by box.
-use Rattle.std.proofs.Common.{◌≡◌, ℕ, ◌-◌, ◌<◌, ◌≤◌, length, get_or}
+use Rattle.std.proofs.Common.{get_or}
 use lib.Ieee.{nan}
 use Rattle.scope.specs.Packing.{centred}
 use Rattle.intake.specs.Columns.{at}
@@ -8,8 +8,4 @@ use Rattle.packing.proofs.centres_of.Given as goal
 
 abbrev pub invariant-loop-i : goal.invariant-loop-i
 invariant-loop-i l =
-    (l.i ≤ length l.sides) × (length l.lines ≡ length l.sides) × (length l.centres ≡ length l.sides) × ((length l.breadths ≡ length l.sides) × (length l.cells ≡ length l.sides) × ((k : ℕ) → k < length l.sides → get_or l.lines k 0 < length l.sides))
-    × At l.i l.centres nan (λ b. centred (at l.cells (get_or l.lines b 0)) (at l.breadths (get_or l.lines b 0)) (at l.sides b))
-
-abbrev pub decreases-loop-i : goal.decreases-loop-i
-decreases-loop-i l = length l.sides - l.i
+    At l.i l.centres nan (λ b. centred (at l.cells (get_or l.lines b 0)) (at l.breadths (get_or l.lines b 0)) (at l.sides b))

@@ -1,18 +1,20 @@
 -- `columns` meets its contract: the refusal, or the count.
-use Rattle.std.proofs.Common.{[], ◌∷◌, sym, ap, ◌∙◌}
-use Rattle.scope.specs.Refusals.{columns_refusal, given}
-use Rattle.intake.proofs.CauseWords.{joined, number-says}
-use Rattle.packing.proofs.ColumnTable.{columns-refused, columns-given, columns_asked}
+use Rattle.std.proofs.Common.{sym}
+use Rattle.std.proofs.lemmas.Result.{err_from_is_err_and}
+use Rattle.scope.specs.Packing.{columns_answer}
+use Rattle.refusals.proofs.Exits.{answer-refused, answer-given}
+use Rattle.packing.proofs.ColumnTable.{columns_asked}
 use Rattle.packing.proofs.columns.Goals as goal
 
-pub returns-then-refusal-ne0 : goal.returns-then-refusal-ne0
-unfolding columns_refusal
-returns-then-refusal-ne0 c = let number = c.number_of-refusal.ensures ∙ number-says _ _ (joined _ _ ((1, _) ∷ []) ((16, _) ∷ []) c.of_count.ensures c.of_proportion.ensures) in columns-refused _ _ _ number c.if-refusal-ne0.true
+pub returns-in_err-check_columns : goal.returns-in_err-check_columns
+unfolding columns_answer
+returns-in_err-check_columns c =
+    let p = err_from_is_err_and c.from_residual.result c.from_residual.ensures.1 in
+    rw (p.1, p.2) (answer-refused c.check_columns.result _ c.check_columns.ensures _ _ c.in_err-check_columns.was)
 
 pub columns_of-requires : goal.columns_of-requires
-unfolding columns_refusal
-columns_of-requires c = let number = c.number_of-refusal.ensures ∙ number-says _ _ (joined _ _ ((1, _) ∷ []) ((16, _) ∷ []) c.of_count.ensures c.of_proportion.ensures) in columns_asked _ _ (sym number ∙ c.if-refusal-ne0.false)
+columns_of-requires c = columns_asked _ _ (sym c.in_ok-check_columns.ensures)
 
 pub returns : goal.returns
-unfolding columns_refusal
-returns c = let number = c.number_of-refusal.ensures ∙ number-says _ _ (joined _ _ ((1, _) ∷ []) ((16, _) ∷ []) c.of_count.ensures c.of_proportion.ensures) in ap given c.columns_of.ensures ∙ columns-given _ _ (sym number ∙ c.if-refusal-ne0.false)
+unfolding columns_answer
+returns c = rw c.columns_of.ensures (answer-given c.check_columns.result _ c.check_columns.ensures _ _ c.in_ok-check_columns.was)

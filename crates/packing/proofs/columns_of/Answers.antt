@@ -4,7 +4,7 @@ use Rattle.scope.specs.Numbers.{golden}
 use Rattle.scope.specs.Packing.{columns}
 use Rattle.promises.proofs.packing.Proportions.{columns_at_most_16}
 use Rattle.packing.proofs.ColumnTable.{golden-alone, proportion_good}
-use Rattle.packing.proofs.Counting.{count_small, count_held}
+use Rattle.packing.proofs.Counting.{count_small}
 use Rattle.packing.proofs.RaisedWord.{raised_word_is}
 use Rattle.packing.proofs.columns_of.Goals as goal
 
@@ -13,9 +13,6 @@ unfolding golden
 returns-then-proportion c =
     let same = golden-alone c.args.proportion (proportion_good c.args.proportion c.well_formed.1.0.1 c.requires.1) (subst T (sym c.if-proportion.true) tt) in
     c.golden_columns.ensures ∙ ap (columns c.args.k) (sym same)
-
-pub int_to_float-k : goal.int_to_float-k
-int_to_float-k c = count_held _ c.requires.0
 
 pub returns : goal.returns
 unfolding columns

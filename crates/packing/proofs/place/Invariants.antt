@@ -1,12 +1,9 @@
 -- `place` meets its contract: the boxes before j that go before box i are counted.
-use Rattle.std.proofs.Common.{◌≡◌, ◌-◌, ◌<◌, ◌≤◌, length}
+use Rattle.std.proofs.Common.{◌≡◌, ◌≤◌}
 use Rattle.scope.specs.Runs.{many}
 use Rattle.scope.specs.Packing.{before}
 use Rattle.intake.specs.Columns.{at}
 use Rattle.packing.proofs.place.Given as goal
 
 abbrev pub invariant-loop-j : goal.invariant-loop-j
-invariant-loop-j l = (l.i < length l.areas) × (l.j ≤ length l.areas) × (l.count ≤ l.j) × (l.count ≡ many l.j (before (at l.areas) l.i))
-
-abbrev pub decreases-loop-j : goal.decreases-loop-j
-decreases-loop-j l = length l.areas - l.j
+invariant-loop-j l = (l.count ≤ l.j) × (l.count ≡ many l.j (before (at l.areas) l.i))

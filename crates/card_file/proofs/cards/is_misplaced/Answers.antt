@@ -1,16 +1,18 @@
 -- `is_misplaced` meets its contract.
 use mathlib.Core.Path.{sym, ap}
-use mathlib.Core.Bool.{not}
+use mathlib.Core.Bool.{not, or-false}
 use Rattle.scope.specs.CardFile.{misplaced}
-use borrow.Author.Tests.{ne_eqb}
-use mathlib.Core.Bool.{or-false}
 use lib.Dec.{eqb}
 use Rattle.card_file.proofs.cards.is_misplaced.Goals as goal
 
-pub returns-then-tag-eq2 : goal.returns-then-tag-eq2
+pub returns-in-Factor : goal.returns-in-Factor
 unfolding misplaced
-returns-then-tag-eq2 c = λ card e. rw (c.if-tag-eq2.true, e) (sym (ap not (or-false (eqb c.args.m 0))))
+returns-in-Factor c = λ card e. rw c.in-Factor.is
 
-pub returns : goal.returns
+pub returns-in-Circle : goal.returns-in-Circle
 unfolding misplaced
-returns c = λ card e. rw (ne_eqb _ _ c.if-tag-eq2.false)
+returns-in-Circle c = λ card e. rw (c.in-Circle.is, e) (sym (ap not (or-false (eqb c.args.m 0))))
+
+pub returns-in-Region : goal.returns-in-Region
+unfolding misplaced
+returns-in-Region c = λ card e. rw c.in-Region.is

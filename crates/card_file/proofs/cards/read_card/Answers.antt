@@ -2,27 +2,39 @@
 use mathlib.Core.Path.{sym, ◌∙◌}
 use Rattle.scope.specs.CardFile.{read_card}
 use Rattle.promises.proofs.saved.Cards.{cards-saved}
-use Rattle.card_file.proofs.FieldLaws.{refused-answer, given-answer}
-use Rattle.card_file.proofs.Filling.{refused_is_blank}
-use Rattle.card_file.proofs.Values.{stays-refused, with_values}
+use Rattle.refusals.proofs.Exits.{answer-refused, answer-given}
+use Rattle.card_file.specs.Answers.{shown}
+use Rattle.card_file.proofs.Filling.{used_length, refused_is_blank}
+use Rattle.card_file.proofs.Values.{stays-refused, with_values, given_card, none_refused}
 use Rattle.card_file.proofs.cards.read_card.Goals as goal
 
-pub returns-then-card-ne0-clause-answer : goal.returns-then-card-ne0-clause-answer
+pub returns-then-is_some-clause-answer : goal.returns-then-is_some-clause-answer
 unfolding read_card
-returns-then-card-ne0-clause-answer c = stays-refused _ _ _ c.read_file-card.ensures.answer c.if-card-ne0.true
+returns-then-is_some-clause-answer c =
+    stays-refused _ _ _ c.read_file-card.ensures.answer (sym c.is_some.ensures ∙ c.if-is_some.true)
 
-pub returns-then-refusal-ne0-clause-answer : goal.returns-then-refusal-ne0-clause-answer
+pub returns-in-Err-clause-answer : goal.returns-in-Err-clause-answer
 unfolding read_card
-returns-then-refusal-ne0-clause-answer c =
-    let v = c.value_refusal-refusal.ensures in
-    rw c.refused.ensures (refused-answer _ _ c.if-refusal-ne0.true ∙ sym (with_values _ _ _ c.read_file-card.ensures.answer c.if-card-ne0.false ∙ rw (← v) (refused-answer _ _ c.if-refusal-ne0.true)))
+returns-in-Err-clause-answer c =
+    let read = c.read_file-card in
+    rw (c.refused.ensures.refusal, with_values _ _ _ read.ensures.answer (none_refused _ (sym c.is_some.ensures ∙ c.if-is_some.false)))
+    (answer-refused c.check_card.result _ (c.check_card.ensures _ (used_length read.ensures.rest.areas)) _ _ c.in-Err.is)
 
-pub returns-then-refusal-ne0-clause-rest : goal.returns-then-refusal-ne0-clause-rest
-returns-then-refusal-ne0-clause-rest c = rw c.refused.ensures (refused_is_blank _)
+pub returns-in-Err-clause-rest : goal.returns-in-Err-clause-rest
+returns-in-Err-clause-rest c = refused_is_blank _ c.refused.ensures.blank
 
-pub returns : goal.returns
+pub returns-clause-answer : goal.returns-clause-answer
 unfolding read_card
-returns c =
-    let v = c.value_refusal-refusal.ensures in
-    let read = given-answer _ _ c.if-card-ne0.false ∙ sym (with_values _ _ _ c.read_file-card.ensures.answer c.if-card-ne0.false ∙ given-answer _ _ (sym v ∙ c.if-refusal-ne0.false)) in
-    record { answer = read; again = λ z. cards-saved.same_bytes _ _ (λ k h. (c.type_inv.file k).fits) (sym read ∙ given-answer _ _ z); rest = c.read_file-card.ensures.rest }
+returns-clause-answer c =
+    let read = c.read_file-card in
+    let whole = none_refused _ (sym c.is_some.ensures ∙ c.if-is_some.false) in
+    rw (with_values _ _ _ read.ensures.answer whole, given_card _ (shown read.result) whole)
+    (answer-given c.check_card.result _ (c.check_card.ensures _ (used_length read.ensures.rest.areas)) _ _ c.in_default.is)
+
+pub returns-clause-again : goal.returns-clause-again
+unfolding read_card
+returns-clause-again c whole =
+    let read = c.read_file-card in
+    cards-saved.same_bytes c.args.file.now (shown read.result) (λ k h. (c.type_inv.file k).fits)
+    (rw (with_values _ _ _ read.ensures.answer whole)
+    (sym (answer-given c.check_card.result _ (c.check_card.ensures _ (used_length read.ensures.rest.areas)) _ _ c.in_default.is)))

@@ -1,17 +1,23 @@
 -- `field_body` meets its contract.
-use mathlib.Core.Path.{sym, ◌∙◌}
+use mathlib.Core.Path.{sym}
+use borrow.Author.Tests.{ne_eqb}
 use Rattle.scope.specs.CardFile.{field_body}
-use Rattle.card_file.proofs.FieldLaws.{body-inside, accepted_is_whole}
-use borrow.Author.Tests.{eq-eqb, ne_eqb}
+use Rattle.refusals.proofs.Exits.{stopped}
+use Rattle.card_file.proofs.FieldLaws.{tagged-inside, accepted_is_whole}
 use Rattle.card_file.proofs.fields.field_body.Goals as goal
 
-pub returns-then-field_refusal-ne0-clause-body : goal.returns-then-field_refusal-ne0-clause-body
-unfolding field_body
-returns-then-field_refusal-ne0-clause-body c = rw (← c.field_refusal.ensures, ne_eqb _ _ c.if-field_refusal-ne0.true)
-
 pub body_at-requires : goal.body_at-requires
-body_at-requires c = let a = c.args in body-inside a.file.now a.at (accepted_is_whole _ (sym c.field_refusal.ensures ∙ c.if-field_refusal-ne0.false))
+body_at-requires c =
+    let a = c.args in
+    let checked = c.in-Ok.ensures in
+    tagged-inside a.file.now a.at _ checked.tag (accepted_is_whole _ (sym checked.number))
 
-pub returns-clause-body : goal.returns-clause-body
+pub returns-in-Ok-clause-body : goal.returns-in-Ok-clause-body
 unfolding field_body
-returns-clause-body c = rw (← c.field_refusal.ensures, eq-eqb _ _ c.if-field_refusal-ne0.false) c.body_at.ensures.body
+returns-in-Ok-clause-body c = rw (← c.in-Ok.ensures.number) c.body_at.ensures.body
+
+pub returns-in-Err-clause-body : goal.returns-in-Err-clause-body
+unfolding field_body
+returns-in-Err-clause-body c =
+    let e = stopped c.check_field.result _ c.check_field.ensures.number _ c.in-Err.is in
+    rw (ne_eqb _ _ e.1)

@@ -4,4 +4,4 @@ use Rattle.card_file.proofs.fields.is_body_cut.Goals as goal
 
 pub returns : goal.returns
 unfolding body_cut
-returns c = rw (c.bytes_left.ensures, c.body_length.ensures.0, c.tag_at.ensures)
+returns c = rw (c.bytes_left.ensures, c.body_length.ensures.0, c.requires)

@@ -4,4 +4,4 @@ use Rattle.card_file.proofs.fields.is_wrong_length.Goals as goal
 
 pub returns : goal.returns
 unfolding wrong_length
-returns c = rw (c.stated_length.ensures, c.body_length.ensures.0, c.tag_at.ensures)
+returns c = rw (c.stated_length.ensures, c.body_length.ensures.0, c.requires)

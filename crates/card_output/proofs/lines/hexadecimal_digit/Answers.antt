@@ -7,6 +7,6 @@ pub returns-then-d-lt10 : goal.returns-then-d-lt10
 unfolding hex_digit
 returns-then-d-lt10 c = rw (lt-ltb _ 10 c.if-d-lt10.true)
 
-pub returns : goal.returns
+pub returns-else-d-lt10 : goal.returns-else-d-lt10
 unfolding hex_digit
-returns c = rw (le-ltb _ 10 c.if-d-lt10.false)
+returns-else-d-lt10 c = rw (le-ltb _ 10 c.if-d-lt10.false)

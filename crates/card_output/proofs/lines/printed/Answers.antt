@@ -1,7 +1,5 @@
 -- `printed` meets its contract: the head, then the lines, put into an empty buffer.
 use native.Mathlib.Omega.{arith}
-use Prim.Native.Nat.{◌≤◌}
-use lib.ListN.{length}
 use Rattle.scope.specs.Text.{bytes}
 use Rattle.card_output.proofs.Putting.{put_both, put_equal, put_first}
 use Rattle.card_output.proofs.Printing.{printed_is}
@@ -18,8 +16,7 @@ returns c =
     let padding = c.put_digits-padding_end.ensures in
     let end = c.put_byte-head.ensures in
     let rest = c.put_lines-length.ensures in
-    let inside : a.n ≤ length a.circles = omega (arith, c.requires, c.well_formed.0.1.0.1) in
-    let same = printed_is a.circles a.n a.count a.numbers a.moved a.padding pattern.result inside pattern.ensures in
+    let same = printed_is a.circles.now a.laid.now pattern.result pattern.ensures in
     let head = put_both (put_both (put_both (put_both circles.0 clusters.0) moved.0) padding.0) end in
     let text = put_first (put_equal same (put_both head rest.0)) in
     (text.0, text.1, omega (arith, circles.1, clusters.1, moved.1, padding.1, end.place, rest.1))

@@ -1,14 +1,8 @@
 -- `put_lines` meets its contract: after i turns the lines of the first i circles are put.
-use Prim.Native.Nat.{◌≤◌, ◌-◌, ◌+◌}
-use mathlib.Core.Path.{◌≡◌}
-use lib.ListN.{length}
+use Prim.Native.Nat.{◌≤◌, ◌+◌}
 use Rattle.card_output.specs.Puts.{Put}
 use Rattle.card_output.specs.Texts.{lines_of, lines_room}
 use Rattle.card_output.proofs.lines.put_lines.Given as goal
 
 abbrev pub invariant-loop-i : goal.invariant-loop-i
-invariant-loop-i l =
-    (l.i ≤ l.n) × (length l.out ≡ length l.initial.out) × Put (lines_of l.circles l.numbers l.i) l.at l.initial.out l.next l.out × (l.next ≤ l.at + lines_room l.i)
-
-abbrev pub decreases-loop-i : goal.decreases-loop-i
-decreases-loop-i l = l.n - l.i
+invariant-loop-i l = Put (lines_of l.circles l.numbers l.i) l.at l.initial.out l.next l.out × (l.next ≤ l.at + lines_room l.i)

@@ -11,5 +11,5 @@ unfolding refused_text bytes
 returns c =
     let number = c.put_count-end.ensures in
     let end = c.put_byte-length.ensures in
-    let text = put_first {text = refused_text c.args.number} (put_equal (simp append_assoc) (put_both number.0 end)) in
-    (text.0, text.1, omega (arith, number.1, end.place))
+    let text = put_first {text = refused_text c.number.result} (put_equal (simp append_assoc) (put_both number.0 end)) in
+    rw (← c.number.ensures) (text.0, text.1, omega (arith, number.1, end.place))

@@ -1,9 +1,7 @@
--- `put_bytes` meets its contract: after i turns the first i bytes are put.
+-- `put_bytes` meets its contract: the bytes are stored behind what the list holds.
 use native.Mathlib.Omega.{arith}
-use Rattle.card_output.proofs.Putting.{put_next}
+use Rattle.card_output.proofs.Putting.{put_run}
 use Rattle.card_output.proofs.puts.put_bytes.Goals as goal
 
-pub loop-i-preserved : goal.loop-i-preserved
-loop-i-preserved c =
-    let l = c.loop-i in
-    (omega arith, omega arith, put_next _ _ c.loop-i-test.true l.invariant.2 c.put_byte-after.ensures)
+pub returns : goal.returns
+returns c = rw c.copy_from_slice.ensures.after (put_run _ _ _ _ (omega arith) c.requires)

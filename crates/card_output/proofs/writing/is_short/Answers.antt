@@ -10,11 +10,11 @@ pub returns-then-room-before : goal.returns-then-room-before
 unfolding too_short
 returns-then-room-before c =
     let a = c.args in
-    rw (lt-ltb a.room (11 + 29 * a.n + 19 * a.m) (omega arith))
+    rw (lt-ltb a.room (11 + 29 * a.n + 19 * a.m) (omega arith)) (lt-ltb _ _ c.if-room-before.true)
 
-pub returns : goal.returns
+pub returns-else-room-before : goal.returns-else-room-before
 unfolding too_short
-returns c =
+returns-else-room-before c =
     let a = c.args in
     let size = 11 + 29 * a.n + 19 * a.m in
     elim (dec_lt a.room size) [

@@ -1,11 +1,18 @@
 -- `contains_point` meets its contract: the refusal, or the value where there is none.
-use mathlib.Core.Path.{sym, ◌∙◌}
-use Rattle.laws.proofs.AfterRefusal.{contains_point-answers}
+use mathlib.Core.Path.{◌≡◌, ap, ◌∙◌}
+use Rattle.std.proofs.lemmas.Result.{err_from_is_err_and}
+use Rattle.scope.specs.Refusals.{refused}
+use Rattle.scope.specs.Distance.{contains_point_answer}
+use Rattle.refusals.specs.Numbers.{number}
+use Rattle.refusals.proofs.Exits.{answer-refused, answer-given}
 use Rattle.geometry.proofs.circle.contains_point.Goals as goal
 
-pub returns-then-refusal-ne0 : goal.returns-then-refusal-ne0
-returns-then-refusal-ne0 c = let number = c.circle_point_refusal-refusal.ensures in rw ((contains_point-answers _ _).at_refusal (λ z. c.if-refusal-ne0.true (number ∙ z)), number)
+pub returns-in_err-check_circle_and_point : goal.returns-in_err-check_circle_and_point
+unfolding contains_point_answer
+returns-in_err-check_circle_and_point c =
+    let p = err_from_is_err_and c.from_residual.result c.from_residual.ensures.1 in
+    rw (p.1, p.2) (answer-refused c.check_circle_and_point.result _ c.check_circle_and_point.ensures _ _ c.in_err-check_circle_and_point.was)
 
 pub returns : goal.returns
-returns c =
-    rw ((contains_point-answers _ _).on_acceptance (sym c.circle_point_refusal-refusal.ensures ∙ c.if-refusal-ne0.false), c.raw_contains_point.ensures)
+unfolding contains_point_answer
+returns c = rw c.raw_contains_point.ensures (answer-given c.check_circle_and_point.result _ c.check_circle_and_point.ensures _ _ c.in_ok-check_circle_and_point.was)

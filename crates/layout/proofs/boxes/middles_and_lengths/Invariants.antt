@@ -1,7 +1,5 @@
 -- `middles_and_lengths` meets its contract, range by range.
-use Prim.Native.Nat.{◌-◌, ◌≤◌}
 use mathlib.Core.Path.{◌≡◌}
-use lib.ListN.{length}
 use lib.Ieee.{nan}
 use Rattle.scope.specs.Numbers.{◌-ᶠ◌}
 use Rattle.scope.specs.Gauge.{middle}
@@ -10,7 +8,6 @@ use Rattle.intake.proofs.InPlace.{so_far}
 use Rattle.layout.proofs.boxes.middles_and_lengths.Given as goal
 
 abbrev pub invariant-loop-i : goal.invariant-loop-i
-invariant-loop-i l = (l.i ≤ length l.initial.lows) × (length l.initial.highs ≡ length l.initial.lows) × (length l.lows ≡ length l.initial.lows) × (length l.highs ≡ length l.initial.highs) × (l.lows ≡ so_far (λ k low. middle low (at l.initial.highs k)) nan l.i l.initial.lows) × (l.highs ≡ so_far (λ k high. high -ᶠ at l.initial.lows k) nan l.i l.initial.highs)
-
-abbrev pub decreases-loop-i : goal.decreases-loop-i
-decreases-loop-i l = length l.initial.lows - l.i
+invariant-loop-i l =
+    (l.lows ≡ so_far (λ k low. middle low (at l.initial.highs k)) nan l.i l.initial.lows)
+    × (l.highs ≡ so_far (λ k high. high -ᶠ at l.initial.lows k) nan l.i l.initial.highs)

@@ -1,5 +1,4 @@
--- `padding_of` meets its contract: after i boxes the sum is that of the first i areas.
-use Prim.Native.Nat.{◌-◌, ◌≤◌}
+-- `padding_of` meets its contract: after some boxes the sum is that of their areas.
 use mathlib.Core.Path.{◌≡◌}
 use lib.ListN.{length}
 use Rattle.scope.specs.Numbers.{◌+ᶠ◌, ◌*ᶠ◌, nought}
@@ -7,8 +6,5 @@ use Rattle.scope.specs.Runs.{gather, always}
 use Rattle.intake.specs.Columns.{at}
 use Rattle.layout.proofs.boxes.padding_of.Given as goal
 
-abbrev pub invariant-loop-i : goal.invariant-loop-i
-invariant-loop-i l = (l.i ≤ length l.widths) × (2 ≤ length l.widths) × (length l.heights ≡ length l.widths) × (l.sum ≡ gather ◌+ᶠ◌ nought always l.i (λ a. at l.widths a *ᶠ at l.heights a))
-
-abbrev pub decreases-loop-i : goal.decreases-loop-i
-decreases-loop-i l = length l.widths - l.i
+abbrev pub invariant-loop-width : goal.invariant-loop-width
+invariant-loop-width l = l.sum ≡ gather ◌+ᶠ◌ nought always (length l.yielded) (λ a. at l.widths a *ᶠ at l.heights a)

@@ -1,8 +1,6 @@
 -- `all_mirrored` meets its contract, number by number.
-use Prim.Native.Nat.{◌-◌, ◌≤◌}
 use mathlib.Core.Path.{◌≡◌}
 use mathlib.Core.Bool.{cond}
-use lib.ListN.{length}
 use lib.Ieee.{nan}
 use Rattle.scope.specs.Numbers.{◌-ᶠ◌, ◌*ᶠ◌, two}
 use Rattle.scope.specs.Gauge.{in_cluster}
@@ -10,7 +8,4 @@ use Rattle.intake.proofs.InPlace.{so_far}
 use Rattle.layout.proofs.gauge.all_mirrored.Given as goal
 
 abbrev pub invariant-loop-i : goal.invariant-loop-i
-invariant-loop-i l = (l.i ≤ length l.initial.coords) × (length l.numbers ≡ length l.initial.coords) × ((length l.coords ≡ length l.initial.coords) × (l.coords ≡ so_far (λ k x. cond (in_cluster l.numbers l.a k) (two *ᶠ l.m -ᶠ x) x) nan l.i l.initial.coords))
-
-abbrev pub decreases-loop-i : goal.decreases-loop-i
-decreases-loop-i l = length l.initial.coords - l.i
+invariant-loop-i l = l.coords ≡ so_far (λ k x. cond (in_cluster l.numbers l.a k) (two *ᶠ l.m -ᶠ x) x) nan l.i l.initial.coords

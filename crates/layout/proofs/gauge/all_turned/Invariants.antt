@@ -1,8 +1,6 @@
 -- `all_turned` meets its contract, circle by circle.
-use Prim.Native.Nat.{◌-◌, ◌≤◌}
 use mathlib.Core.Path.{◌≡◌}
 use mathlib.Core.Bool.{cond}
-use lib.ListN.{length}
 use lib.Ieee.{nan}
 use Rattle.scope.specs.Gauge.{in_cluster}
 use Rattle.intake.specs.Columns.{at}
@@ -11,7 +9,7 @@ use Rattle.layout.specs.Turns.{as_turn, turned_x, turned_y}
 use Rattle.layout.proofs.gauge.all_turned.Given as goal
 
 abbrev pub invariant-loop-i : goal.invariant-loop-i
-invariant-loop-i l = (l.i ≤ length l.initial.xs) × (length l.numbers ≡ length l.initial.xs) × (length l.initial.ys ≡ length l.initial.xs) × ((length l.xs ≡ length l.initial.xs) × (length l.ys ≡ length l.initial.ys) × (l.xs ≡ so_far (λ k x. cond (in_cluster l.numbers l.a k) (turned_x (as_turn l.t) l.p l.q x (at l.initial.ys k)) x) nan l.i l.initial.xs) × (l.ys ≡ so_far (λ k y. cond (in_cluster l.numbers l.a k) (turned_y (as_turn l.t) l.p l.q (at l.initial.xs k) y) y) nan l.i l.initial.ys))
-
-abbrev pub decreases-loop-i : goal.decreases-loop-i
-decreases-loop-i l = length l.initial.xs - l.i
+invariant-loop-i l =
+    (l.xs ≡ so_far (λ k x. cond (in_cluster l.numbers l.a k) (turned_x (as_turn l.t) l.p l.q x (at l.initial.ys k)) x) nan l.i l.initial.xs)
+    × (l.ys
+    ≡ so_far (λ k y. cond (in_cluster l.numbers l.a k) (turned_y (as_turn l.t) l.p l.q (at l.initial.xs k) y) y) nan l.i l.initial.ys)

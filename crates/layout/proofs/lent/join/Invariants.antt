@@ -1,13 +1,9 @@
 -- `join` meets its contract, circle by circle.
-use Prim.Native.Nat.{◌-◌, ◌≤◌}
 use mathlib.Core.Path.{◌≡◌}
-use lib.ListN.{length}
-use Rattle.intake.specs.Limits.{max_circles}
-use Rattle.layout.proofs.Recentred.{reached}
+use Rattle.scope.specs.Links.{nowhere}
+use Rattle.intake.proofs.InPlace.{so_far}
+use Rattle.layout.proofs.Joined.{recentred}
 use Rattle.layout.proofs.lent.join.Given as goal
 
 abbrev pub invariant-loop-i : goal.invariant-loop-i
-invariant-loop-i l = (l.i ≤ l.count) × (l.count ≤ max_circles) × (l.count ≤ length l.initial.circles) × (length l.circles ≡ length l.initial.circles) × (l.circles ≡ reached l.xs l.ys l.initial.circles l.i)
-
-abbrev pub decreases-loop-i : goal.decreases-loop-i
-decreases-loop-i l = l.count - l.i
+invariant-loop-i l = l.circles ≡ so_far (recentred l.xs l.ys) nowhere l.i l.initial.circles

@@ -1,5 +1,5 @@
 -- `all_tried` meets its contract: the circles before i have been tried in turn, and the mask has no bit from i on.
-use Prim.Native.Nat.{◌-◌, ◌^◌, ◌<◌, ◌≤◌}
+use Prim.Native.Nat.{◌^◌, ◌<◌}
 use mathlib.Core.List.{List}
 use mathlib.Core.Path.{◌≡◌}
 use lib.ListN.{length}
@@ -10,7 +10,8 @@ use Rattle.layout.proofs.OffsetMoves.{tried_first}
 use Rattle.layout.proofs.offset.all_tried.Given as goal
 
 abbrev pub invariant-loop-i : goal.invariant-loop-i
-invariant-loop-i l = (l.i ≤ length l.initial.xs) × (length l.xs ≡ length l.initial.xs) × (length l.ys ≡ length l.initial.xs) × (l.mask < 2 ^ l.i) × ((rs : List Region) → ParentsOf (length l.initial.xs) rs l.parents → moment (circles_of l.xs l.ys l.radii) l.mask ≡ tried_first (length l.initial.xs) rs l.i (moment (circles_of l.initial.xs l.initial.ys l.radii) 0))
-
-abbrev pub decreases-loop-i : goal.decreases-loop-i
-decreases-loop-i l = length l.initial.xs - l.i
+invariant-loop-i l =
+    (l.mask < 2 ^ l.i)
+    × ((rs : List Region) → ParentsOf (length l.initial.xs) rs l.parents
+    → moment (circles_of l.xs l.ys l.radii) l.mask
+    ≡ tried_first (length l.initial.xs) rs l.i (moment (circles_of l.initial.xs l.initial.ys l.radii) 0))

@@ -4,4 +4,4 @@ use Rattle.layout.proofs.offset.contains_at.Goals as goal
 
 pub returns : goal.returns
 unfolding contains_at
-returns c = rw (c.contains.ensures, c.child_at.ensures)
+returns c = rw (c.encloses.ensures, c.child_at.ensures)

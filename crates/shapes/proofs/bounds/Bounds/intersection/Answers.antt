@@ -2,13 +2,13 @@
 use mathlib.Core.Path.{◌≡◌}
 use mathlib.Core.Bool.{Bool, true, false, cond}
 use Rattle.shapes.specs.declared.bounds.Bounds.{Bounds}
-use Rattle.shapes.specs.declared.bounds.Overlap.TheVariants.{Box, Empty}
+use Rattle.std.specs.Prelude.{Some, None}
 use Rattle.shapes.specs.Records.{box_of}
 use Rattle.shapes.specs.Boxes.{shared_box, proper, overlap_of}
 use Rattle.shapes.proofs.bounds.Bounds.intersection.Goals as goal
 use Rattle.shapes.proofs.bounds.Bounds.intersection.Goals.{else-x_min-x_max-via-then-x_min-x_max+else-y_min-y_max, else-x_min-x_max-via-else-x_min-x_max}
 
-decided : (a b s : Bounds) (t : Bool) → s ≡ shared_box a b → proper s ≡ t → cond t (Box s) Empty ≡ overlap_of a b
+decided : (a b s : Bounds) (t : Bool) → s ≡ shared_box a b → proper s ≡ t → cond t (Some s) None ≡ overlap_of a b
 unfolding overlap_of
 decided a b s t same test = cc
 

@@ -1,9 +1,0 @@
--- `at` meets its contract.
-use mathlib.Core.Path.{sym}
-use Rattle.intake.proofs.Columns.{shown_at}
-use Rattle.clustering.proofs.at.Goals as goal
-
-pub returns : goal.returns
-returns c =
-    let a = c.args in
-    sym (shown_at a.xs.now a.ys.now a.radii.now a.i c.requires.0)

@@ -1,7 +1,0 @@
--- `raw_contains` meets its contract.
-use Rattle.scope.specs.Distance.{contains}
-use Rattle.geometry.proofs.circle.raw_contains.Goals as goal
-
-pub returns : goal.returns
-unfolding contains
-returns c = rw (c.within.ensures, c.raw_distance.ensures)

@@ -1,0 +1,10 @@
+-- `from` gives the record of a layout: after a refusal every number is 0.
+use lib.Ieee.{of_bits}
+use Rattle.scope.specs.Limits.{circle_cap}
+use Rattle.scope.specs.Runs.{filled}
+use Rattle.scope.specs.Layout.{refused_layout}
+use Rattle.rundhefja.proofs.answers.LaidFromResultArrangementRefusal.from.Goals as goal
+
+pub returns-in-Err : goal.returns-in-Err
+unfolding refused_layout filled circle_cap of_bits
+returns-in-Err c = rw (c.in-Err.is, c.number.ensures)
