@@ -31,8 +31,8 @@ pub fn read_card(file: &[u8]) -> Card
     ensures rest { RestIsBlank result }
 {
     let card = read_file(file);
-    if card.refusal.is_some() {
-        return card;
+    if let Some(refusal) = card.refusal {
+        return refused(refusal);
     }
     // Copies: where nothing points into the card, it is not moved about.
     let circles = card.circles;

@@ -3,8 +3,9 @@ use Prim.Native.Nat.{ℕ, suc, ◌+◌, ◌-◌, ◌≤◌, ◌<◌}
 use mathlib.Core.Path.{◌≡◌, refl, sym, ap, subst, ◌∙◌}
 use mathlib.Core.List.{List, [], ◌∷◌, ◌++◌, append_assoc, append-nil}
 use native.Mathlib.Omega.{arith}
+use native.Mathlib.Numerals.{add-one}
 use lib.ListN.{length, set, replicate, length-append, length-drop, take, drop, get_or}
-use lib.Seq.{set_at, drop-append_seam, drop-drop, drop-cons, take_at, length-take-le}
+use lib.Seq.{set_at, drop-cons, take-suc, take_all, take_at, length-take-le}
 use Rattle.scope.specs.Runs.{filled}
 use Rattle.laws.proofs.Runs.{drop-replicate, length-filled}
 use Rattle.card_output.specs.Puts.{Holds, Put}
@@ -49,28 +50,16 @@ put_both {a} {b} x y =
       holds = λ lent held h. rw (← append_assoc) (y.holds lent (held ++ a) (x.holds lent held h));
     }
 
--- ---- several bytes at once
+-- ---- the first bytes of several
 
--- a store of several bytes behind what is held
-held_run : (lent held bytes : List ℕ)
-    → take (length held) (held ++ drop (length held) lent)
-    ++ (bytes ++ drop (length bytes) (drop (length held) (held ++ drop (length held) lent)))
-    ≡ (held ++ bytes) ++ drop (length (held ++ bytes)) lent
-held_run lent held bytes =
-    rw (take_at held (drop (length held) lent) (length held) refl, drop-append_seam, drop-drop, length-append, append_assoc) refl
+pub put_next : (bytes : List ℕ) (i : ℕ) {k l m : List ℕ} {p q r : ℕ} → i < length bytes → Put (take i bytes) p k q l → Put (get_or bytes i 0 ∷ []) q l r m → Put (take (i + 1) bytes) p k r m
+put_next bytes i {k} {l} {m} {p} {q} {r} h x y = subst (λ (z : List ℕ). Put z p k r m) (sym (ap (λ (j : ℕ). take j bytes) (add-one i) ∙ take-suc bytes i 0 h)) (put_both x y)
 
-pub put_run : (bytes l : List ℕ) (at n : ℕ) → n ≡ length bytes → at + length bytes ≤ length l
-    → Put bytes at l (at + length bytes) (take at l ++ (bytes ++ drop n (drop at l)))
-put_run bytes l at n e h =
-    record {
-      place = refl;
-      holds = λ lent held k.
-          record {
-            place = rw length-append (omega (arith, k.place));
-            fits = omega (arith, length_held k);
-            is = rw (k.is, k.place, e) (held_run lent held bytes);
-          };
-    }
+pub put_all : (bytes : List ℕ) (i : ℕ) {k l : List ℕ} {p q : ℕ} → length bytes ≤ i → Put (take i bytes) p k q l → Put bytes p k q l
+put_all bytes i h x = rw (take_all i bytes h) at x
+
+pub place_of : (bytes : List ℕ) (i : ℕ) {k l : List ℕ} {p q : ℕ} → i ≤ length bytes → Put (take i bytes) p k q l → q ≡ p + i
+place_of bytes i h x = omega (arith, x.place, length-take-le i bytes h)
 
 pub put_equal : {a b k l : List ℕ} {p q : ℕ} → a ≡ b → Put a p k q l → Put b p k q l
 put_equal {a} {b} {k} {l} {p} {q} e x = subst (λ (z : List ℕ). Put z p k q l) e x

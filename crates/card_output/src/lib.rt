@@ -11,6 +11,7 @@ ghost use Rattle.scope.specs.Layout.{layout};
 ghost use Rattle.scope.specs.CardFile.{values_refusal};
 ghost use Rattle.scope.specs.Print.{printed, card_text};
 ghost use Rattle.scope.specs.Saving.{card_of, write_card, write_text};
+ghost use Rattle.scope.specs.Twins.{first_written};
 ghost use Rattle.card_output.specs.Saving.{saved, ReadsBack};
 ghost use Rattle.card_output.specs.Texts.{IsText};
 ghost use Rattle.card_file.specs.Answers.{shown};
@@ -22,7 +23,7 @@ use crate::writing::{is_short, put_file};
 use card_file::card::Card;
 use card_file::cards::read_card;
 use intake::checks::check_card;
-use intake::limits::GOLDEN;
+use intake::limits::{GOLDEN, MAX_CIRCLES, too_many};
 use layout::normalize::normalize_layout_with_clusters;
 use refusals::{Refusal, refuse_if};
 use shapes::circle::Circle;
@@ -119,4 +120,20 @@ pub fn write_card(
         Refusal::OutputTooShort,
     )?;
     Ok(put_file(out, circles, factor, masks, patterns))
+}
+
+// The same of the first n circles of an array. The others are not looked at.
+pub fn write_card_by_value(
+    circles: [Circle; MAX_CIRCLES],
+    n: usize,
+    factor: f64,
+    masks: &[u64],
+    patterns: &[u64],
+    out: &mut [u8],
+) -> Result<usize, Refusal>
+    ensures answer { saved result out.new ≡ first_written n circles factor masks.now patterns.now out.old }
+    ensures back { ReadsBack (card_of factor (take n circles) masks.now patterns.now) result out.new }
+{
+    refuse_if(too_many(n), Refusal::TooManyCircles)?;
+    write_card(&circles[..n], factor, masks, patterns, out)
 }

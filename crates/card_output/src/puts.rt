@@ -12,13 +12,16 @@ pub(crate) fn put_byte(out: &mut [u8], at: usize, byte: u8) -> usize
     at + 1
 }
 
+// One after the other: a copy of them all at once would be a call of the C library's.
 pub(crate) fn put_bytes(out: &mut [u8], at: usize, bytes: &[u8]) -> usize
     requires { at + length bytes.now ≤ length out.old }
     ensures { Put bytes.now at out.old result out.new }
 {
-    let end = at + bytes.len();
-    out[at..end].copy_from_slice(bytes);
-    end
+    let mut next = at;
+    for byte in bytes {
+        next = put_byte(out, next, *byte);
+    }
+    next
 }
 
 // ---- words, the lowest byte first

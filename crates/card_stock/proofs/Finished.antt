@@ -1,8 +1,7 @@
 -- The charge for the layout of a run: what is known where it is accepted, and what it is then.
 use Prim.Native.Nat.{ℕ, ◌≤◌, ◌<◌}
-use native.Mathlib.Omega.{arith}
-use mathlib.Core.Path.{◌≡◌, refl, sym, ap, subst, ◌∙◌}
-use mathlib.Core.Bool.{true, false, true≢false}
+use mathlib.Core.Path.{◌≡◌, refl, sym, ap, ◌∙◌}
+use mathlib.Core.Bool.{true, true≢false}
 use mathlib.Core.List.{List}
 use lib.Dec.{T, eqb}
 use lib.Ieee.{Float, binary64, fits}
@@ -15,7 +14,7 @@ use Rattle.refusals.proofs.Exits.{number-there}
 use Rattle.scope.specs.Limits.{circle_cap, price_ok}
 use Rattle.scope.specs.Links.{regions}
 use Rattle.scope.specs.Refusals.{layout_refusal, stock_refusal}
-use Rattle.scope.specs.Layout.{Layout, layout, arranged, refused_layout}
+use Rattle.scope.specs.Layout.{Layout, layout, refused_layout}
 use Rattle.scope.specs.CardStock.{card_stock, stock_for}
 use Rattle.laws.proofs.Accepted.{stock_accepted_iff, within_limits, layout_accepted_iff}
 use Rattle.laws.proofs.AfterRefusal.{layout-answers, stock_answers}

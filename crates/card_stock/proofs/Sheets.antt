@@ -1,24 +1,23 @@
 -- The box of the first circles of a list grows by one circle at a time, and with all of them it is the sheet; what the sheet costs, in numbers that do not wrap.
-use Prim.Native.Nat.{ℕ, ◌+◌, ◌*◌, ◌≤◌, ◌<◌}
+use Prim.Native.Nat.{ℕ, ◌+◌, ◌*◌, ◌<◌}
 use native.Mathlib.Numerals.{add-one}
 use native.Mathlib.Omega.{arith}
-use mathlib.Core.Path.{◌≡◌, refl, sym, ap, ◌∙◌}
+use mathlib.Core.Path.{◌≡◌, refl, sym, ◌∙◌}
 use mathlib.Core.List.{List, [], ◌∷◌}
 use mathlib.Core.Bool.{true, false}
 use borrow.Author.Tests.{eqb-true, eqb-false}
 use lib.Dec.{eqb}
 use lib.Ieee.{Float}
-use lib.ListN.{length, take}
-use lib.Seq.{get_or-take, length-take-le}
+use lib.ListN.{length}
 use Rattle.shapes.specs.declared.bounds.Bounds.{Bounds}
 use Rattle.shapes.specs.declared.circle.Circle.{Circle}
 use Rattle.shapes.specs.Boxes.{circle_box, union_of, width_of, height_of}
 use Rattle.scope.specs.Runs.{gather, always}
-use Rattle.scope.specs.Links.{circle, nowhere}
+use Rattle.scope.specs.Links.{circle}
 use Rattle.scope.specs.Gauge.{nothing}
 use Rattle.scope.specs.Padding.{box_all}
 use Rattle.scope.specs.CardStock.{sheet, wide, tall, started_hundreds, stock_for}
-use Rattle.laws.proofs.Runs.{gather-takes, gather_equal}
+use Rattle.laws.proofs.Runs.{gather-takes}
 use Rattle.packing.specs.Raised.{raised_word}
 use Rattle.packing.proofs.RaisedWord.{raised_word_is, raised_is_word}
 use Rattle.card_stock.specs.Sheets.{SheetSmall}

@@ -4,15 +4,16 @@
 ghost use Rattle.std.specs.Prelude.{◌≡◌, ◌+◌, ◌^◌, ◌≤◌, ◌<◌, T, length};
 ghost use Rattle.scope.specs.Limits.{price_ok};
 ghost use Rattle.scope.specs.CardStock.{card_stock, sheet, started_hundreds, stock_for};
+ghost use Rattle.scope.specs.Twins.{first_stock};
 ghost use Rattle.card_stock.specs.Answers.{charge_of};
 ghost use Rattle.card_stock.specs.Sheets.{SheetSmall};
 
 use intake::blanks::blank;
 use intake::checks::check_stock;
-use intake::limits::MAX_CIRCLES;
+use intake::limits::{MAX_CIRCLES, too_many};
 use layout::normalize::normalize_layout_with_clusters;
 use packing::raised;
-use refusals::Refusal;
+use refusals::{Refusal, refuse_if};
 use shapes::bounds::Bounds;
 use shapes::circle::Circle;
 
@@ -34,6 +35,22 @@ pub fn card_stock(
     finished.copy_from_slice(circles);
     normalize_layout_with_clusters(finished, factor, masks, areas, proportion).unwrap();
     Ok(stock(finished, cents))
+}
+
+// The same of the first n circles of an array. The others are not looked at.
+pub fn card_stock_by_value(
+    circles: [Circle; MAX_CIRCLES],
+    n: usize,
+    factor: f64,
+    masks: &[u64],
+    areas: &[f64],
+    proportion: f64,
+    cents: u64,
+) -> Result<u64, Refusal>
+    ensures { charge_of result ≡ first_stock n circles factor masks.now areas.now proportion cents }
+{
+    refuse_if(too_many(n), Refusal::TooManyCircles)?;
+    card_stock(&circles[..n], factor, masks, areas, proportion, cents)
 }
 
 // What the sheet of these circles costs.

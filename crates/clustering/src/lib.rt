@@ -10,6 +10,7 @@ ghost use Rattle.scope.specs.Links.{regions, linked_by_regions, linked_by_circle
 ghost use Rattle.scope.specs.Tolerance.{tolerance};
 ghost use Rattle.scope.specs.Closure.{Marks, at, closure};
 ghost use Rattle.scope.specs.Groups.{clusters, plain_clusters, clusters_of, accepted_grouping, area_grouping, plain_grouping};
+ghost use Rattle.scope.specs.Twins.{first_grouping};
 ghost use Rattle.laws.proofs.Closure.{Equivalence};
 ghost use Rattle.intake.specs.Limits.{max_circles};
 ghost use Rattle.intake.specs.Firsts.{FirstFrom};
@@ -19,8 +20,8 @@ ghost use Rattle.clustering.specs.Table.{Row, Shows, Holds, closed_to, Given};
 use geometry::circle::overlap;
 use geometry::lengths::absolute;
 use intake::checks::{check_circles, check_regions};
-use intake::limits::MAX_CIRCLES;
-use refusals::Refusal;
+use intake::limits::{MAX_CIRCLES, too_many};
+use refusals::{Refusal, refuse_if};
 use shapes::circle::Circle;
 use shapes::extremes::maximum;
 
@@ -59,6 +60,14 @@ pub fn find_clusters(circles: &[Circle]) -> Result<Clusters, Refusal>
 {
     check_circles(circles)?;
     Ok(by_circles(circles))
+}
+
+// The same of the first n circles of an array. The others are not looked at.
+pub fn find_clusters_by_value(circles: [Circle; MAX_CIRCLES], n: usize) -> Result<Clusters, Refusal>
+    ensures { grouped result ≡ first_grouping n circles }
+{
+    refuse_if(too_many(n), Refusal::TooManyCircles)?;
+    find_clusters(&circles[..n])
 }
 
 // What is no more than this does not count in a layout: 1e-10 of the largest area, or of 1. Rounding leaves some 1e-12 of the largest where there is no

@@ -1,12 +1,12 @@
 -- A loop over a run that writes one number of each record into an array: what stands there after i turns, and in its front at the end.
-use Prim.Native.Nat.{ℕ, ◌+◌, ◌≤◌, ◌<◌, min}
+use Prim.Native.Nat.{ℕ, ◌+◌, ◌-◌, ◌≤◌, ◌<◌, min}
 use native.Mathlib.Decide.{dec_lt}
 use native.Mathlib.Numerals.{add-one}
 use native.Mathlib.Omega.{arith}
-use mathlib.Core.Path.{◌≡◌, sym, ◌∙◌}
-use mathlib.Core.List.{List}
-use lib.ListN.{length, get_or, set, take, drop, length-take}
-use lib.Seq.{take_all, take_at}
+use mathlib.Core.Path.{◌≡◌, sym, subst, ◌∙◌}
+use mathlib.Core.List.{List, ◌++◌}
+use lib.ListN.{length, get_or, set, take, drop, replicate, length-take}
+use lib.Seq.{take_all, take_at, drop-append_seam}
 use Rattle.std.proofs.lemmas.List.{get_or_default}
 use Rattle.intake.proofs.Overwriting.{over, over_next}
 use lib.Ieee.{Float, nan}
@@ -14,6 +14,7 @@ use Rattle.scope.specs.Links.{nowhere}
 use Rattle.scope.specs.Packing.{no_rectangle}
 use Rattle.scope.specs.Refusals.{inks}
 use Rattle.laws.proofs.Accepted.{ink_at_lem, length-inks}
+use Rattle.laws.proofs.Runs.{drop-replicate}
 use Rattle.intake.specs.Limits.{max_circles}
 use Rattle.intake.specs.Columns.{xs_of, ys_of, radii_of, widths_of, heights_of}
 use Rattle.intake.proofs.Columns.{length_xs, x_at, length_ys, y_at, length-radii, radius_at, length_widths, width_at_lem, length_heights, height_at_lem}
@@ -82,3 +83,14 @@ module _ {A B : Type 0} {d : A} (k : Field d B) (all : List A) (n : ℕ) (few : 
   front_filled i {m} low high e =
       rw (← front_of_all all n few)
       (rw long at (all_filled k (take n all) zs room i {m = m} (rw long low) (rw long high) e))
+
+  -- behind them, what the array was made of
+  pub behind : (i : ℕ) {m : List B} (z : B) → zs ≡ replicate max_circles z → i ≤ n → n ≤ i → m ≡ over i (k.column (take n all)) zs
+      → drop n m ≡ replicate (max_circles - n) z
+  behind i {m} z made low high e =
+      let col = k.column (take n all) in
+      let same : i ≡ n = omega arith in
+      let width : length col ≡ n = k.long (take n all) ∙ long in
+      let seam : drop n (col ++ drop n (replicate max_circles z)) ≡ drop n (replicate max_circles z) =
+      subst (λ (j : ℕ). drop j (col ++ drop n (replicate max_circles z)) ≡ drop n (replicate max_circles z)) width (drop-append_seam col (drop n (replicate max_circles z))) in
+      rw (e, same, made, take_all n col (omega (arith, width))) (seam ∙ drop-replicate n max_circles z)

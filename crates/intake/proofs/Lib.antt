@@ -2,8 +2,11 @@ pub mod Beyond
 pub mod TrailingZeros
 pub mod Overwriting
 pub mod InPlace
+pub mod SoFar
 pub mod Columns
 pub mod CauseWords
+pub mod Turns
 pub mod Checked
+pub mod ByCount
 pub mod Listed
 pub mod Filling

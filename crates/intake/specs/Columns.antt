@@ -1,14 +1,16 @@
 -- Circles as three lists of numbers of one length: their centres' x, their centres' y, their radii. The steps of a layout work on such lists, in place.
 -- No step looks at an ink, so there the circles stand with ink 0; their inks are a fourth list, which is put on again at the end.
-use Rattle.std.specs.Prelude.{ℕ, ◌≡◌, Bool, cond, List, ◌++◌, get_or, length, drop, Float}
+use Rattle.std.specs.Prelude.{ℕ, ◌≡◌, ◌-◌, Bool, cond, List, ◌++◌, get_or, length, drop, replicate, Float}
 use Rattle.std.specs.Float.{nan}
 use Rattle.shapes.specs.declared.circle.Circle.{Circle}
 use Rattle.shapes.specs.declared.rectangle.Rectangle.{Rectangle}
 use Rattle.shapes.specs.Records.{circle_of}
 use Rattle.shapes.specs.Lift.{lift}
+use Rattle.scope.specs.Numbers.{nought}
 use Rattle.scope.specs.Runs.{tab}
 use Rattle.scope.specs.Links.{circle}
 use Rattle.scope.specs.Packing.{rectangle}
+use Rattle.intake.specs.Limits.{max_circles}
 
 -- the number at a place of a list; past the end, a NaN
 abbrev pub at : List Float → ℕ → Float
@@ -54,3 +56,7 @@ Lifted rs = (i : ℕ) → lift (at rs i) ≡ at rs i
 -- a list written over the front of another
 unfoldable pub overwritten : {A : Type 0} → List A → List A → List A
 overwritten l m = l ++ drop (length l) m
+
+-- an array of which no place from n on was written
+abbrev pub NoughtFrom : ℕ → List Float → Type 0
+NoughtFrom n l = drop n l ≡ replicate (max_circles - n) nought

@@ -1,7 +1,8 @@
-// Records as columns of their numbers, each in the front of an array: what the steps of a layout work on. Of more records than there may be, the first 64.
+// Records as columns of their numbers, each in the front of an array, with zeros behind: what the steps of a layout work on. Of more records than there may be,
+// the first 64.
 ghost use Rattle.std.specs.Prelude.{◌≡◌, ◌≤◌, length, take};
 ghost use Rattle.intake.specs.Limits.{max_circles};
-ghost use Rattle.intake.specs.Columns.{xs_of, ys_of, radii_of, widths_of, heights_of};
+ghost use Rattle.intake.specs.Columns.{xs_of, ys_of, radii_of, widths_of, heights_of, NoughtFrom};
 
 use crate::limits::{MAX_CIRCLES, room};
 use shapes::circle::Circle;
@@ -23,17 +24,21 @@ impl Columns {
         ensures x { take result.n result.xs ≡ xs_of (take max_circles circles.now) }
         ensures y { take result.n result.ys ≡ ys_of (take max_circles circles.now) }
         ensures radius { take result.n result.radii ≡ radii_of (take max_circles circles.now) }
+        ensures behind { NoughtFrom result.n result.xs × NoughtFrom result.n result.ys × NoughtFrom result.n result.radii }
     {
         let n = room(circles.len());
-        let mut xs = [0.0; MAX_CIRCLES];
-        let mut ys = [0.0; MAX_CIRCLES];
-        let mut radii = [0.0; MAX_CIRCLES];
+        let mut columns = Columns {
+            n,
+            xs: [0.0; MAX_CIRCLES],
+            ys: [0.0; MAX_CIRCLES],
+            radii: [0.0; MAX_CIRCLES],
+        };
         for (i, c) in circles[..n].iter().enumerate() {
-            xs[i] = c.center.x;
-            ys[i] = c.center.y;
-            radii[i] = c.radius;
+            columns.xs[i] = c.center.x;
+            columns.ys[i] = c.center.y;
+            columns.radii[i] = c.radius;
         }
-        Columns { n, xs, ys, radii }
+        columns
     }
 }
 
@@ -51,6 +56,7 @@ impl Sides {
         ensures few { result.n ≤ max_circles }
         ensures width { take result.n result.widths ≡ widths_of (take max_circles rectangles.now) }
         ensures height { take result.n result.heights ≡ heights_of (take max_circles rectangles.now) }
+        ensures behind { NoughtFrom result.n result.widths × NoughtFrom result.n result.heights }
     {
         let n = room(rectangles.len());
         let mut widths = [0.0; MAX_CIRCLES];

@@ -14,3 +14,4 @@ pub mod ClusterBoxes
 pub mod PackedClusters
 pub mod WholeSteps
 pub mod Joined
+pub mod FirstCircles

@@ -1,16 +1,17 @@
 // The whole layout: children moved off their parents' centres, each cluster turned and mirrored, the clusters packed, all of it centred.
-ghost use Rattle.std.specs.Prelude.{◌≡◌, ◌≤◌, T, length, IfOk, OnOk};
+ghost use Rattle.std.specs.Prelude.{◌≡◌, ◌≤◌, T, length, take, IfOk, OnOk};
 ghost use Rattle.scope.specs.Limits.{proportion_ok};
 ghost use Rattle.scope.specs.Links.{regions};
 ghost use Rattle.scope.specs.Tolerance.{tolerance};
 ghost use Rattle.scope.specs.Padding.{boxes, padding};
 ghost use Rattle.scope.specs.Layout.{layout};
 ghost use Rattle.scope.specs.Promises.{Promises};
+ghost use Rattle.scope.specs.Twins.{first_layout};
 ghost use Rattle.laws.specs.Limits.{WithinLimits};
 ghost use Rattle.promises.specs.Demand3.{bound, AreDoubles};
 ghost use Rattle.intake.specs.Limits.{max_circles};
 ghost use Rattle.intake.specs.Columns.{circles_of};
-ghost use Rattle.layout.specs.Answers.{outcome_of, laid_out};
+ghost use Rattle.layout.specs.Answers.{outcome_of, laid_out, first_laid};
 ghost use Rattle.layout.specs.Laid.{packed_clusters, settled_clusters};
 ghost use Rattle.layout.specs.Shown.{Become, gauged_of, arranged_of, boxes_of, ToPack};
 
@@ -23,9 +24,9 @@ use crate::regions::Regions;
 use clustering::{find_clusters_from_exclusive_regions, tolerance};
 use intake::arrays::Columns;
 use intake::checks::check_layout;
-use intake::limits::MAX_CIRCLES;
+use intake::limits::{MAX_CIRCLES, too_many};
 use packing::pack_sides;
-use refusals::Refusal;
+use refusals::{Refusal, refuse_if};
 use shapes::circle::Circle;
 
 // How the circles are arranged: how many clusters, each circle's cluster, the mask of the moved circles, and the padding. Numbers that are
@@ -64,6 +65,41 @@ pub fn normalize_layout_with_clusters(
     let arrangement = arranged(xs, ys, &radii[..n], factor, masks, areas, proportion);
     join(circles, xs, ys);
     Ok(arrangement)
+}
+
+// How the first circles of an array are arranged, and the array as it then is.
+#[derive(Clone, Copy)]
+pub struct Layout {
+    pub arrangement: Arrangement,
+    pub circles: [Circle; MAX_CIRCLES],
+}
+
+// The same of the first n circles of an array. The others are not looked at, and stay.
+pub fn normalize_layout_with_clusters_by_value(
+    circles: [Circle; MAX_CIRCLES],
+    n: usize,
+    factor: f64,
+    masks: &[u64],
+    areas: &[f64],
+    proportion: f64,
+) -> Result<Layout, Refusal>
+    ensures answer { first_laid circles result ≡ first_layout n circles factor masks.now areas.now proportion }
+    ensures promises { IfOk result (λ l. Promises bound (take n circles) (regions masks.now areas.now)
+        (outcome_of l.arrangement) (take n l.circles)) }
+{
+    refuse_if(too_many(n), Refusal::TooManyCircles)?;
+    let mut placed = circles;
+    let arrangement = normalize_layout_with_clusters(
+        &mut placed[..n],
+        factor,
+        masks,
+        areas,
+        proportion,
+    )?;
+    Ok(Layout {
+        arrangement,
+        circles: placed,
+    })
 }
 
 // ---- the steps, one after the other. Clusters go by the regions' areas and not by how the circles lie: where two circles nearly coincide

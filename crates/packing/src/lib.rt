@@ -19,6 +19,7 @@ ghost use Rattle.scope.specs.Packing.{
   placed,
   skyline_pack,
 };
+ghost use Rattle.scope.specs.Twins.{first_packing};
 ghost use Rattle.refusals.specs.Numbers.{number_if, answer_of};
 ghost use Rattle.intake.specs.Limits.{max_circles};
 ghost use Rattle.intake.specs.Columns.{at};
@@ -31,7 +32,7 @@ use geometry::lengths::root_or_nan;
 use intake::arrays::Sides;
 use intake::checks::{any_bad_side, check_columns};
 use intake::limits::{GOLDEN, MAX_CIRCLES, bad_padding, bad_proportion, room, too_many};
-use refusals::{Refusal, refuse_first};
+use refusals::{Refusal, refuse_first, refuse_if};
 use shapes::extremes::maximum;
 use shapes::point::Point;
 use shapes::rectangle::Rectangle;
@@ -68,6 +69,19 @@ pub fn skyline_pack(
         &mut ys,
     )?;
     Ok(boxes_at(&sides.widths, &sides.heights, &xs, &ys, n))
+}
+
+// The same of the first n boxes of an array. The others are not looked at.
+pub fn skyline_pack_by_value(
+    rectangles: [Rectangle; MAX_CIRCLES],
+    n: usize,
+    padding: f64,
+    proportion: f64,
+) -> Result<[Rectangle; MAX_CIRCLES], Refusal>
+    ensures { packed_boxes result ≡ first_packing n rectangles padding proportion }
+{
+    refuse_if(too_many(n), Refusal::TooManyCircles)?;
+    skyline_pack(&rectangles[..n], padding, proportion)
 }
 
 // What stands where there is no box.

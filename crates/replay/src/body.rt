@@ -88,52 +88,59 @@ impl<'a> Body<'a> {
 
     // ---- lists
 
-    // At most 255 circles: a count is a byte.
-    pub fn circles(&mut self, n: usize) -> Option<[Circle; 256]> {
-        let mut all = [blank(); 256];
-        for place in all.get_mut(..n)? {
-            *place = self.circle()?;
+    // So many circles, of which those that an array of 64 holds are kept. Behind them stand points of ink 0, which nothing may look at: they would be refused
+    // for their radii and inks.
+    pub fn circles(&mut self, n: usize) -> Option<[Circle; 64]> {
+        let mut all = [blank(); 64];
+        for i in 0..n {
+            let circle = self.circle()?;
+            if let Some(place) = all.get_mut(i) {
+                *place = circle;
+            }
         }
         Some(all)
     }
 
-    // As many rectangles.
-    pub fn rectangles(&mut self, n: usize) -> Option<[Rectangle; 256]> {
-        let mut all = [Rectangle::new(Point::new(0.0, 0.0), 0.0, 0.0); 256];
-        for place in all.get_mut(..n)? {
-            *place = self.rectangle()?;
+    // So many rectangles, likewise. Behind them stand some without sides.
+    pub fn rectangles(&mut self, n: usize) -> Option<[Rectangle; 64]> {
+        let mut all = [Rectangle::new(Point::new(0.0, 0.0), 0.0, 0.0); 64];
+        for i in 0..n {
+            let rectangle = self.rectangle()?;
+            if let Some(place) = all.get_mut(i) {
+                *place = rectangle;
+            }
         }
         Some(all)
     }
 
-    // At most 4,096 points. The lists were made for calls that hold 1,024: what a record has behind these does not count, and stands at the origin.
-    pub fn points(&mut self, n: usize) -> Option<[Point; 4096]> {
-        let mut all = [Point::new(0.0, 0.0); 4096];
-        for (i, place) in all.get_mut(..n)?.iter_mut().enumerate() {
+    // So many points, of which those that an array of 1,024 holds are kept. Behind them stand some out of range, which nothing may look at.
+    pub fn points(&mut self, n: usize) -> Option<[Point; 1024]> {
+        let mut all = [Point::new(2097152.0, 0.0); 1024];
+        for i in 0..n {
             let point = self.point()?;
-            if i < 1024 {
+            if let Some(place) = all.get_mut(i) {
                 *place = point;
             }
         }
         Some(all)
     }
 
-    // At most 4,096 words, and 0 behind them.
-    pub fn words(&mut self, n: usize) -> Option<[u64; 4096]> {
-        let mut all = [0; 4096];
-        for place in all.get_mut(..n)? {
+    // So many words, put into the front of a list, if it has room for them.
+    pub fn words<'b>(&mut self, n: usize, room: &'b mut [u64]) -> Option<&'b [u64]> {
+        let words = room.get_mut(..n)?;
+        for place in words.iter_mut() {
             *place = self.word()?;
         }
-        Some(all)
+        Some(words)
     }
 
-    // As many floats.
-    pub fn floats(&mut self, n: usize) -> Option<[f64; 4096]> {
-        let mut all = [0.0; 4096];
-        for place in all.get_mut(..n)? {
+    // So many floats, likewise.
+    pub fn floats<'b>(&mut self, n: usize, room: &'b mut [f64]) -> Option<&'b [f64]> {
+        let floats = room.get_mut(..n)?;
+        for place in floats.iter_mut() {
             *place = self.float()?;
         }
-        Some(all)
+        Some(floats)
     }
 
     // ---- what is to stand next

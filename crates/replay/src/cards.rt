@@ -1,7 +1,7 @@
 // Whole cards: the two-byte length of the card file, the file, and the very bytes that program `card` prints for it. An accepted card is also written again.
 use crate::body::Body;
 use card_file::cards::read_card;
-use card_output::{MAX_FILE, card_text, write_card};
+use card_output::{MAX_FILE, card_text, write_card_by_value};
 
 pub fn card_agrees(mut body: Body<'_>) -> Option<()> {
     let length = body.short()?;
@@ -18,8 +18,9 @@ fn is_written_again(file: &[u8]) -> bool {
         return true;
     }
     let mut out = [0u8; MAX_FILE];
-    match write_card(
-        card.circles(),
+    match write_card_by_value(
+        card.circles,
+        card.n,
         card.factor,
         card.masks(),
         card.patterns(),

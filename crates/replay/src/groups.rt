@@ -1,13 +1,13 @@
 // Clusterings: the refusal's number, the count, 64 cluster numbers.
 use crate::body::Body;
-use clustering::{Clusters, find_clusters, find_clusters_from_exclusive_regions};
+use clustering::{Clusters, find_clusters_by_value, find_clusters_from_exclusive_regions};
 use refusals::Refusal;
 
 // How many circles, the circles, the answer.
 pub fn circles_agree(mut body: Body<'_>) -> Option<()> {
     let n = usize::from(body.byte()?);
     let circles = body.circles(n)?;
-    is_grouped(&mut body, find_clusters(circles.get(..n)?))?;
+    is_grouped(&mut body, find_clusters_by_value(circles, n))?;
     body.ends()
 }
 
@@ -17,14 +17,11 @@ pub fn areas_agree(mut body: Body<'_>) -> Option<()> {
     let m = usize::from(body.short()?);
     let a = usize::from(body.short()?);
     let tolerance = body.float()?;
-    let masks = body.words(m)?;
-    let areas = body.floats(a)?;
-    let answer = find_clusters_from_exclusive_regions(
-        n,
-        masks.get(..m)?,
-        areas.get(..a)?,
-        tolerance,
-    );
+    let mut mask_room = [0; 4096];
+    let masks = body.words(m, &mut mask_room)?;
+    let mut area_room = [0.0; 4096];
+    let areas = body.floats(a, &mut area_room)?;
+    let answer = find_clusters_from_exclusive_regions(n, masks, areas, tolerance);
     is_grouped(&mut body, answer)?;
     body.ends()
 }

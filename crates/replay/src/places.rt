@@ -1,7 +1,7 @@
 // Column counts, packing and the container call.
 use crate::body::Body;
-use layout::container::normalize_layout_with_container;
-use packing::{columns, skyline_pack};
+use layout::container::{InContainer, normalize_layout_with_container_by_value};
+use packing::{columns, skyline_pack_by_value};
 use shapes::circle::Circle;
 
 // How many boxes, the proportion, the refusal, the columns.
@@ -20,7 +20,7 @@ pub fn pack_agrees(mut body: Body<'_>) -> Option<()> {
     let padding = body.float()?;
     let proportion = body.float()?;
     let rectangles = body.rectangles(n)?;
-    let answer = skyline_pack(rectangles.get(..n)?, padding, proportion);
+    let answer = skyline_pack_by_value(rectangles, n, padding, proportion);
     body.is_refusal(&answer)?;
     if let Ok(placed) = answer {
         for r in placed.get(..n)? {
@@ -34,19 +34,19 @@ pub fn pack_agrees(mut body: Body<'_>) -> Option<()> {
 pub fn container_agrees(mut body: Body<'_>) -> Option<()> {
     let n = usize::from(body.byte()?);
     let container = body.rectangle()?;
-    let mut circles = body.circles(n)?;
-    let run = circles.get_mut(..n)?;
-    let answer = normalize_layout_with_container(run, container);
+    let circles = body.circles(n)?;
+    let answer = normalize_layout_with_container_by_value(circles, n, container);
     body.is_refusal(&answer)?;
-    body.is_rectangle(answer.unwrap_or(container))?;
-    are_circles(&mut body, run)?;
+    let settled = answer.unwrap_or(InContainer { container, circles });
+    body.is_rectangle(settled.container)?;
+    are_circles(&mut body, settled.circles, n)?;
     body.ends()
 }
 
-// The circles, where they fit a layout.
-pub fn are_circles(body: &mut Body<'_>, circles: &[Circle]) -> Option<()> {
-    if circles.len() <= 64 {
-        for c in circles {
+// The first n circles, where they fit a layout.
+pub fn are_circles(body: &mut Body<'_>, circles: [Circle; 64], n: usize) -> Option<()> {
+    if n <= 64 {
+        for c in circles.get(..n)? {
             body.is_circle(*c)?;
         }
     }

@@ -1,5 +1,5 @@
 // The calls of document 01 on records, as C, C++ and Rust programs have them: `rundhefja_c` exports each.
-// A call does nothing but call, and its contract is that of what it calls.
+// A call does nothing but call and make C's record of the answer, and its contract says of that what the call's says.
 #![tactic(auto)]
 
 pub mod answers;

@@ -4,6 +4,7 @@
 ghost use Rattle.std.specs.Prelude.{◌≡◌, ◌≤◌, length, map};
 ghost use Rattle.shapes.specs.Records.{point_at};
 ghost use Rattle.scope.specs.Touch.{touch_mask, touched};
+ghost use Rattle.scope.specs.Twins.{first_touched};
 ghost use Rattle.refusals.specs.Numbers.{number_if};
 ghost use Rattle.intake.specs.Limits.{max_circles};
 ghost use Rattle.intake.specs.Columns.{circles_of, overwritten};
@@ -12,7 +13,8 @@ ghost use Rattle.touch.specs.Answers.{touch_of};
 use geometry::lengths::covers;
 use intake::arrays::Columns;
 use intake::checks::check_touch;
-use refusals::Refusal;
+use intake::limits::{MAX_CIRCLES, MAX_POINTS, too_many, too_many_points};
+use refusals::{Refusal, refuse_if};
 use shapes::circle::Circle;
 use shapes::point::Point;
 
@@ -30,6 +32,26 @@ pub fn touch_points(
     let c = Columns::of(circles);
     put_masks(answers, &c.xs[..c.n], &c.ys[..c.n], &c.radii[..c.n], points);
     Ok(())
+}
+
+// The same of the first n circles of an array and the first m points of another. The others are not looked at, but that a count of points which is too large
+// is refused (18) only where no circle and no point of the array is.
+pub fn touch_points_by_value(
+    circles: [Circle; MAX_CIRCLES],
+    n: usize,
+    points: [Point; MAX_POINTS],
+    m: usize,
+    answers: &mut [u64],
+) -> Result<(), Refusal>
+    ensures { touch_of (number_if result) answers.new ≡ first_touched n circles m points answers.old }
+{
+    refuse_if(too_many(n), Refusal::TooManyCircles)?;
+    let run = &circles[..n];
+    if too_many_points(m) {
+        check_touch(run, &points, MAX_POINTS)?;
+        return Err(Refusal::TooManyPoints);
+    }
+    touch_points(run, &points[..m], answers)
 }
 
 // The answer for each point, from the front of a list on.

@@ -1,6 +1,5 @@
 -- `card_stock` meets its contract: the refusal, or what the sheet of the finished copy costs.
-use mathlib.Core.Path.{refl, sym, ◌∙◌}
-use native.Mathlib.Omega.{arith}
+use mathlib.Core.Path.{sym}
 use lib.Seq.{length-take-le}
 use Rattle.std.proofs.lemmas.Result.{err_from_is_err_and, IfOk-at_ok}
 use Rattle.laws.proofs.AfterRefusal.{stock_answers}

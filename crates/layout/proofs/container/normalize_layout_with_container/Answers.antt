@@ -17,7 +17,7 @@ returns-in_err-check_container c =
 
 pub settled-requires : goal.settled-requires
 settled-requires c =
-    let e = c.of-n.ensures in
+    let e = c.of-c.ensures in
     let cs = c.args.circles.now in
     let z = sym c.in_ok-check_container.ensures in
     rw (e.x, e.y, e.radius, take_all max_circles cs (few_contained cs c.args.container z))
@@ -25,7 +25,7 @@ settled-requires c =
 
 pub join-requires : goal.join-requires
 join-requires c =
-    let e = c.of-n.ensures in
+    let e = c.of-c.ensures in
     let cs = c.args.circles.now in
     let z = sym c.in_ok-check_container.ensures in
     let all = take_all max_circles cs (few_contained cs c.args.container z) in
@@ -35,7 +35,7 @@ join-requires c =
 
 pub returns : goal.returns
 returns c =
-    let e = c.of-n.ensures in
+    let e = c.of-c.ensures in
     let cs = c.args.circles.now in
     let z = sym c.in_ok-check_container.ensures in
     let all = take_all max_circles cs (few_contained cs c.args.container z) in

@@ -9,7 +9,7 @@ use Rattle.intake.proofs.arrays.Columns.of.Given as goal
 
 abbrev pub invariant-loop-i : goal.invariant-loop-i
 invariant-loop-i l =
-    (l.n ≡ min (length l.circles) max_circles)
-    × ((length l.initial.xs ≡ max_circles) × (length l.initial.ys ≡ max_circles) × (length l.initial.radii ≡ max_circles))
-    × ((length l.xs ≡ max_circles) × (length l.ys ≡ max_circles) × (length l.radii ≡ max_circles))
-    × ((l.xs ≡ over l.i (xs_of (take l.n l.circles)) l.initial.xs) × (l.ys ≡ over l.i (ys_of (take l.n l.circles)) l.initial.ys) × (l.radii ≡ over l.i (radii_of (take l.n l.circles)) l.initial.radii))
+    ((l.n ≡ min (length l.circles) max_circles) × (l.columns.n ≡ l.n))
+    × ((length l.initial.columns.xs ≡ max_circles) × (length l.initial.columns.ys ≡ max_circles) × (length l.initial.columns.radii ≡ max_circles))
+    × ((length l.columns.xs ≡ max_circles) × (length l.columns.ys ≡ max_circles) × (length l.columns.radii ≡ max_circles))
+    × ((l.columns.xs ≡ over l.i (xs_of (take l.n l.circles)) l.initial.columns.xs) × (l.columns.ys ≡ over l.i (ys_of (take l.n l.circles)) l.initial.columns.ys) × (l.columns.radii ≡ over l.i (radii_of (take l.n l.circles)) l.initial.columns.radii))

@@ -1,7 +1,9 @@
 -- `Sides::of` meets its contract: after i turns each array has the first i numbers of its column.
 use native.Mathlib.Omega.{arith}
+use lib.Ieee.{of_bits}
 use lib.ListN.{length-set, length-take}
-use Rattle.intake.proofs.Filling.{the_width, the_height, front_next_filled, front_filled}
+use mathlib.Core.Path.{refl}
+use Rattle.intake.proofs.Filling.{the_width, the_height, front_next_filled, front_filled, behind}
 use Rattle.intake.proofs.arrays.Sides.of.Goals as goal
 
 pub loop-i-preserved : goal.loop-i-preserved
@@ -25,3 +27,11 @@ pub returns-clause-height : goal.returns-clause-height
 returns-clause-height c =
     let v = c.loop-i.invariant in
     front_filled the_height c.args.rectangles.now _ v.0 _ v.1.1 c.loop-i.i (omega (arith, length-take c.room-n.result c.args.rectangles.now)) (omega (arith, length-take c.room-n.result c.args.rectangles.now)) v.3.1
+
+pub returns-clause-behind : goal.returns-clause-behind
+unfolding of_bits
+returns-clause-behind c =
+    let v = c.loop-i.invariant in (
+      behind the_width c.args.rectangles.now _ v.0 _ v.1.0 c.loop-i.i _ refl (omega (arith, length-take c.room-n.result c.args.rectangles.now)) (omega (arith, length-take c.room-n.result c.args.rectangles.now)) v.3.0,
+      behind the_height c.args.rectangles.now _ v.0 _ v.1.1 c.loop-i.i _ refl (omega (arith, length-take c.room-n.result c.args.rectangles.now)) (omega (arith, length-take c.room-n.result c.args.rectangles.now)) v.3.1,
+    )
