@@ -3,18 +3,14 @@ use Prim.Native.Nat.{ℕ}
 use mathlib.Core.Path.{◌≡◌, refl}
 use mathlib.Core.Bool.{Bool, true, false, not, cond, ◌||◌}
 use mathlib.Core.List.{List, [], ◌∷◌}
-use borrow.Author.Tests.{ltb-false}
 use lib.Dec.{eqb, ltb}
 use lib.Ieee.{Float}
-use lib.ListN.{length, take}
-use lib.Seq.{take_all}
+use lib.ListN.{length}
 use Rattle.shapes.specs.declared.point.Point.{Point}
 use Rattle.shapes.specs.declared.circle.Circle.{Circle}
 use Rattle.shapes.specs.declared.rectangle.Rectangle.{Rectangle}
-use Rattle.scope.specs.Limits.{circle_cap}
 use Rattle.scope.specs.Runs.{any}
 use Rattle.scope.specs.Refusals.{causes, cause_holds, first, refusal, front_to_back, too_many, unequal, too_many_regions, bad_point, bad_centre, bad_radius, rising, bad_factor, bad_side, same_ink, too_many_points, too_few_answers, circles_refusal, container_refusal, card_refusal, touch_refusal}
-use Rattle.intake.specs.Limits.{max_circles}
 
 -- of two points
 pub points_in_order : (a b : Bool)
@@ -183,40 +179,43 @@ output_after_card false false false false false false false true z = refl
 output_after_card false false false false false false false false true = refl
 output_after_card false false false false false false false false false = refl
 
--- ---- of more circles than there may be, the count alone is looked at
+-- ---- of more circles than there may be, none is looked at: the count decides
 
-pub seen_all : (cs : List Circle) → too_many (length cs) ≡ false → take max_circles cs ≡ cs
-unfolding too_many circle_cap
-seen_all cs few = take_all max_circles cs (ltb-false max_circles (length cs) few)
+-- those that are looked at
+abbrev pub seen : List Circle → List Circle
+seen cs = cond (too_many (length cs)) [] cs
 
-pub circles_seen : (cs : List Circle) → front_to_back ((1, too_many (length cs)) ∷ (3, any bad_centre (take max_circles cs)) ∷ (4, any bad_radius (take max_circles cs)) ∷ (14, same_ink (take max_circles cs)) ∷ []) ≡ circles_refusal cs
+pub seen_all : (cs : List Circle) → too_many (length cs) ≡ false → seen cs ≡ cs
+seen_all cs few = rw few refl
+
+pub circles_seen : (cs : List Circle) → front_to_back ((1, too_many (length cs)) ∷ (3, any bad_centre (seen cs)) ∷ (4, any bad_radius (seen cs)) ∷ (14, same_ink (seen cs)) ∷ []) ≡ circles_refusal cs
 unfolding circles_refusal front_to_back
 circles_seen cs = by_count (too_many (length cs)) refl
   where
-    by_count : (many : Bool) → too_many (length cs) ≡ many → front_to_back ((1, too_many (length cs)) ∷ (3, any bad_centre (take max_circles cs)) ∷ (4, any bad_radius (take max_circles cs)) ∷ (14, same_ink (take max_circles cs)) ∷ []) ≡ circles_refusal cs
+    by_count : (many : Bool) → too_many (length cs) ≡ many → front_to_back ((1, too_many (length cs)) ∷ (3, any bad_centre (seen cs)) ∷ (4, any bad_radius (seen cs)) ∷ (14, same_ink (seen cs)) ∷ []) ≡ circles_refusal cs
     by_count true e = rw (e, circles_in_order)
     by_count false e = rw (seen_all cs e, circles_in_order)
 
-pub container_seen : (cs : List Circle) (r : Rectangle) → front_to_back ((1, too_many (length cs)) ∷ (3, any bad_centre (take max_circles cs)) ∷ (3, bad_point r.center) ∷ (4, any bad_radius (take max_circles cs)) ∷ (7, bad_side r) ∷ (14, same_ink (take max_circles cs)) ∷ []) ≡ container_refusal cs r
+pub container_seen : (cs : List Circle) (r : Rectangle) → front_to_back ((1, too_many (length cs)) ∷ (3, any bad_centre (seen cs)) ∷ (3, bad_point r.center) ∷ (4, any bad_radius (seen cs)) ∷ (7, bad_side r) ∷ (14, same_ink (seen cs)) ∷ []) ≡ container_refusal cs r
 unfolding container_refusal front_to_back
 container_seen cs r = by_count (too_many (length cs)) refl
   where
-    by_count : (many : Bool) → too_many (length cs) ≡ many → front_to_back ((1, too_many (length cs)) ∷ (3, any bad_centre (take max_circles cs)) ∷ (3, bad_point r.center) ∷ (4, any bad_radius (take max_circles cs)) ∷ (7, bad_side r) ∷ (14, same_ink (take max_circles cs)) ∷ []) ≡ container_refusal cs r
+    by_count : (many : Bool) → too_many (length cs) ≡ many → front_to_back ((1, too_many (length cs)) ∷ (3, any bad_centre (seen cs)) ∷ (3, bad_point r.center) ∷ (4, any bad_radius (seen cs)) ∷ (7, bad_side r) ∷ (14, same_ink (seen cs)) ∷ []) ≡ container_refusal cs r
     by_count true e = rw (e, container_in_order)
     by_count false e = rw (seen_all cs e, container_in_order)
 
-pub touch_seen : (cs : List Circle) (ps : List Point) (room : ℕ) → front_to_back ((1, too_many (length cs)) ∷ (3, any bad_centre (take max_circles cs)) ∷ (3, any bad_point ps) ∷ (4, any bad_radius (take max_circles cs)) ∷ (14, same_ink (take max_circles cs)) ∷ (18, too_many_points (length ps)) ∷ (19, ltb room (length ps)) ∷ []) ≡ touch_refusal cs ps (length ps) room
+pub touch_seen : (cs : List Circle) (ps : List Point) (room : ℕ) → front_to_back ((1, too_many (length cs)) ∷ (3, any bad_centre (seen cs)) ∷ (3, any bad_point ps) ∷ (4, any bad_radius (seen cs)) ∷ (14, same_ink (seen cs)) ∷ (18, too_many_points (length ps)) ∷ (19, ltb room (length ps)) ∷ []) ≡ touch_refusal cs ps (length ps) room
 unfolding touch_refusal too_few_answers front_to_back
 touch_seen cs ps room = by_count (too_many (length cs)) refl
   where
-    by_count : (many : Bool) → too_many (length cs) ≡ many → front_to_back ((1, too_many (length cs)) ∷ (3, any bad_centre (take max_circles cs)) ∷ (3, any bad_point ps) ∷ (4, any bad_radius (take max_circles cs)) ∷ (14, same_ink (take max_circles cs)) ∷ (18, too_many_points (length ps)) ∷ (19, ltb room (length ps)) ∷ []) ≡ touch_refusal cs ps (length ps) room
+    by_count : (many : Bool) → too_many (length cs) ≡ many → front_to_back ((1, too_many (length cs)) ∷ (3, any bad_centre (seen cs)) ∷ (3, any bad_point ps) ∷ (4, any bad_radius (seen cs)) ∷ (14, same_ink (seen cs)) ∷ (18, too_many_points (length ps)) ∷ (19, ltb room (length ps)) ∷ []) ≡ touch_refusal cs ps (length ps) room
     by_count true e = rw (e, touch_in_order)
     by_count false e = rw (seen_all cs e, touch_in_order)
 
-pub card_seen : (cs : List Circle) (factor : Float) (masks : List ℕ) (areas : List Float) → front_to_back ((1, too_many (length cs)) ∷ (13, not (eqb (length masks) (length areas))) ∷ (2, too_many_regions (length masks)) ∷ (3, any bad_centre (take max_circles cs)) ∷ (4, any bad_radius (take max_circles cs)) ∷ (5, not (rising masks)) ∷ (6, bad_factor factor) ∷ (14, same_ink (take max_circles cs)) ∷ []) ≡ card_refusal cs factor masks areas
+pub card_seen : (cs : List Circle) (factor : Float) (masks : List ℕ) (areas : List Float) → front_to_back ((1, too_many (length cs)) ∷ (13, not (eqb (length masks) (length areas))) ∷ (2, too_many_regions (length masks)) ∷ (3, any bad_centre (seen cs)) ∷ (4, any bad_radius (seen cs)) ∷ (5, not (rising masks)) ∷ (6, bad_factor factor) ∷ (14, same_ink (seen cs)) ∷ []) ≡ card_refusal cs factor masks areas
 unfolding card_refusal unequal front_to_back
 card_seen cs factor masks areas = by_count (too_many (length cs)) refl
   where
-    by_count : (many : Bool) → too_many (length cs) ≡ many → front_to_back ((1, too_many (length cs)) ∷ (13, not (eqb (length masks) (length areas))) ∷ (2, too_many_regions (length masks)) ∷ (3, any bad_centre (take max_circles cs)) ∷ (4, any bad_radius (take max_circles cs)) ∷ (5, not (rising masks)) ∷ (6, bad_factor factor) ∷ (14, same_ink (take max_circles cs)) ∷ []) ≡ card_refusal cs factor masks areas
+    by_count : (many : Bool) → too_many (length cs) ≡ many → front_to_back ((1, too_many (length cs)) ∷ (13, not (eqb (length masks) (length areas))) ∷ (2, too_many_regions (length masks)) ∷ (3, any bad_centre (seen cs)) ∷ (4, any bad_radius (seen cs)) ∷ (5, not (rising masks)) ∷ (6, bad_factor factor) ∷ (14, same_ink (seen cs)) ∷ []) ≡ card_refusal cs factor masks areas
     by_count true e = rw (e, card_in_order)
     by_count false e = rw (seen_all cs e, card_in_order)

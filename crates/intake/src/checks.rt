@@ -1,5 +1,5 @@
 // What each call checks, cause by cause in the order of document 01's table: the first that holds is the refusal.
-ghost use Rattle.std.specs.Prelude.{◌≡◌, not, List, Float, length, take, ◌≤◌};
+ghost use Rattle.std.specs.Prelude.{◌≡◌, not, cond, List, [], Float, length, ◌≤◌};
 ghost use Rattle.scope.specs.Runs.{any};
 ghost use Rattle.scope.specs.Limits.{side_ok};
 ghost use Rattle.scope.specs.Refusals.{
@@ -14,6 +14,7 @@ ghost use Rattle.scope.specs.Refusals.{
   layout_refusal,
   stock_refusal,
   touch_refusal,
+  too_many,
   bad_point,
   bad_centre,
   bad_radius,
@@ -26,7 +27,7 @@ ghost use Rattle.refusals.specs.Numbers.{number_if};
 
 use crate::limits::{
     MAX_CIRCLES, bad_centre, bad_factor, bad_point, bad_price, bad_proportion, bad_radius,
-    bad_side, room, side_in_range, too_many, too_many_points, too_many_regions,
+    bad_side, side_in_range, too_many, too_many_points, too_many_regions,
 };
 use refusals::{Refusal, refuse_first, refuse_if};
 use shapes::circle::Circle;
@@ -90,7 +91,7 @@ pub fn check_regions(n: usize, masks: &[u64], areas: &[f64]) -> Result<(), Refus
 pub fn check_circles(circles: &[Circle]) -> Result<(), Refusal>
     ensures { number_if result ≡ circles_refusal circles.now }
 {
-    let seen = first(circles);
+    let seen = looked_at(circles);
     refuse_first(&[
         (too_many(circles.len()), Refusal::TooManyCircles),
         (any_centre(seen), Refusal::BadCoordinate),
@@ -102,7 +103,7 @@ pub fn check_circles(circles: &[Circle]) -> Result<(), Refusal>
 pub fn check_container(circles: &[Circle], container: Rectangle) -> Result<(), Refusal>
     ensures { number_if result ≡ container_refusal circles.now container }
 {
-    let seen = first(circles);
+    let seen = looked_at(circles);
     refuse_first(&[
         (too_many(circles.len()), Refusal::TooManyCircles),
         (any_centre(seen), Refusal::BadCoordinate),
@@ -116,7 +117,7 @@ pub fn check_container(circles: &[Circle], container: Rectangle) -> Result<(), R
 pub fn check_touch(circles: &[Circle], points: &[Point], answers: usize) -> Result<(), Refusal>
     ensures { number_if result ≡ touch_refusal circles.now points.now (length points.now) answers }
 {
-    let seen = first(circles);
+    let seen = looked_at(circles);
     refuse_first(&[
         (too_many(circles.len()), Refusal::TooManyCircles),
         (any_centre(seen), Refusal::BadCoordinate),
@@ -137,7 +138,7 @@ pub fn check_card(
 ) -> Result<(), Refusal>
     ensures { (list : List Float) → length list ≡ areas → number_if result ≡ card_refusal circles.now factor masks.now list }
 {
-    let seen = first(circles);
+    let seen = looked_at(circles);
     let rising = is_rising(masks);
     refuse_first(&[
         (too_many(circles.len()), Refusal::TooManyCircles),
@@ -182,11 +183,16 @@ pub fn check_stock(
 
 // ---- the tests of a list
 
-// As many circles as there may be: of more, the count alone is looked at.
-fn first(circles: &[Circle]) -> &[Circle]
-    ensures { (result.now ≡ take max_circles circles.now) }
+// The circles that are tested: of more than there may be none, since the count decides.
+fn looked_at(circles: &[Circle]) -> &[Circle]
+    ensures all { result.now ≡ cond (too_many (length circles.now)) [] circles.now }
+    ensures few { length result.now ≤ max_circles }
 {
-    &circles[..room(circles.len())]
+    if too_many(circles.len()) {
+        &circles[..0]
+    } else {
+        circles
+    }
 }
 
 // Whether a number of the list is no side.

@@ -1,6 +1,6 @@
 -- Boxes of given sides in the grid: their lines, where their centres come to stand, and what packing answers for them. Only the sides matter.
-use Rattle.std.proofs.Common.{◌≡◌, ℕ, ◌*◌, ◌/◌, ◌%◌, ◌<◌, ◌≤◌, min, Bool, true, false, not, ◌||◌, T, List, [], ◌∷◌, ◌++◌, length, get_or, take, drop, sym, refl, ap, ◌∙◌, div-le_self, arith, length-take-le, get_or-take, le-ltb}
-use native.Mathlib.Nat.{mod-le, min-eq_left}
+use Rattle.std.proofs.Common.{◌≡◌, ℕ, ◌*◌, ◌/◌, ◌%◌, ◌<◌, ◌≤◌, Bool, true, false, cond, not, ◌||◌, T, List, [], ◌∷◌, ◌++◌, length, get_or, take, drop, sym, refl, ap, ◌∙◌, div-le_self, arith, length-take-le, get_or-take, le-ltb}
+use native.Mathlib.Nat.{mod-le}
 use mathlib.Core.Bool.{and-false}
 use lib.Ieee.{Float, nan, inf, fin, lt, eq, up, down}
 use Rattle.shapes.specs.Records.{point_at, rectangle_of}
@@ -178,9 +178,9 @@ module _ (n : ℕ) (ws hs : List Float) (pad proportion : Float) (w : length ws 
 
   pub sides_number_lem :
       front_to_back
-      ((1, too_many n) ∷ (7, any long (take (min n max_circles) ws)) ∷ (7, any long (take (min n max_circles) hs)) ∷ (8, bad_padding pad) ∷ (16, bad_proportion proportion) ∷ [])
+      ((1, too_many n) ∷ (7, any long (take (cond (too_many n) 0 n) ws)) ∷ (7, any long (take (cond (too_many n) 0 n) hs)) ∷ (8, bad_padding pad) ∷ (16, bad_proportion proportion) ∷ [])
       ≡ sides_number n ws hs pad proportion
   unfolding sides_number pack_refusal circle_cap front_to_back
   sides_number_lem = by_many n (λ e. rw e) (λ e.
       let l : n ≤ max_circles = few n e in
-      rw ((sided_sides n ws hs).long, e, min-eq_left l, any_side l, boxes_in_order))
+      rw ((sided_sides n ws hs).long, e, any_side l, boxes_in_order))

@@ -2,12 +2,13 @@
 // The sides of the boxes stand in two lists, and so do the places that their centres come to.
 #![tactic(auto)]
 
-ghost use Rattle.std.specs.Prelude.{◌≡◌, ◌<◌, ◌≤◌, ◌&&◌, ◌||◌, T, length, nat_lt};
+ghost use Rattle.std.specs.Prelude.{◌≡◌, ◌<◌, ◌≤◌, ◌&&◌, ◌||◌, T, cond, length, nat_lt};
 ghost use Rattle.std.specs.Float.{nan};
 ghost use Rattle.std.specs.Float.Ieee.{eq};
 ghost use Rattle.scope.specs.Numbers.{◌<ᶠ◌, ◌*ᶠ◌, nought, golden};
 ghost use Rattle.scope.specs.Runs.{tab, filled};
 ghost use Rattle.scope.specs.Limits.{circle_cap, proportion_ok};
+ghost use Rattle.scope.specs.Refusals.{too_many};
 ghost use Rattle.scope.specs.Packing.{
   no_rectangle,
   columns,
@@ -31,7 +32,7 @@ ghost use Rattle.packing.specs.Lists.{At, Lined, InLines, line_of};
 use geometry::lengths::root_or_nan;
 use intake::arrays::Sides;
 use intake::checks::{any_bad_side, check_columns};
-use intake::limits::{GOLDEN, MAX_CIRCLES, bad_padding, bad_proportion, room, too_many};
+use intake::limits::{GOLDEN, MAX_CIRCLES, bad_padding, bad_proportion, too_many};
 use refusals::{Refusal, refuse_first, refuse_if};
 use shapes::extremes::maximum;
 use shapes::point::Point;
@@ -153,7 +154,7 @@ fn check_sides(
 ) -> Result<(), Refusal>
     ensures { number_if result ≡ sides_number n widths.now heights.now padding proportion }
 {
-    let m = room(n);
+    let m = looked_at(n);
     refuse_first(&[
         (too_many(n), Refusal::TooManyCircles),
         (any_bad_side(&widths[..m]), Refusal::BadSide),
@@ -161,6 +162,14 @@ fn check_sides(
         (bad_padding(padding), Refusal::BadPadding),
         (bad_proportion(proportion), Refusal::BadProportion),
     ])
+}
+
+// How many of n boxes are tested: of more than there may be none, since the count decides.
+fn looked_at(n: usize) -> usize
+    ensures all { result ≡ cond (too_many n) 0 n }
+    ensures few { result ≤ max_circles }
+{
+    if too_many(n) { 0 } else { n }
 }
 
 // ---- the grid, over lists of one length

@@ -1,5 +1,5 @@
 // The calls of document 01 on records, as C, C++ and Rust programs have them: `rundhefja_c` exports each.
-// A call does nothing but call and make C's record of the answer, and its contract says of that what the call's says.
+// A call does nothing but call and make C's record of the answer, and its contract has the right side of the call's.
 #![tactic(auto)]
 
 pub mod answers;

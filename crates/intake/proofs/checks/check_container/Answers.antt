@@ -1,14 +1,12 @@
 -- `check_container` meets its contract: document 01's checks, in their order.
 use mathlib.Core.Path.{◌∙◌}
-use native.Mathlib.Omega.{arith}
-use lib.ListN.{length-take}
 use Rattle.intake.proofs.Checked.{container_seen}
 use Rattle.intake.proofs.checks.check_container.Goals as goal
 
 pub any_ink_twice-requires : goal.any_ink_twice-requires
-any_ink_twice-requires c = rw (c.first-seen.ensures, length-take) (omega arith)
+any_ink_twice-requires c = c.looked_at-seen.ensures.few
 
 pub returns : goal.returns
 returns c =
     c.refuse_first.ensures
-    ∙ rw (c.too_many.ensures, c.any_centre.ensures, c.bad_point.ensures, c.any_radius.ensures, c.bad_side.ensures, c.any_ink_twice.ensures, c.first-seen.ensures) (container_seen _ _)
+    ∙ rw (c.too_many.ensures, c.any_centre.ensures, c.bad_point.ensures, c.any_radius.ensures, c.bad_side.ensures, c.any_ink_twice.ensures, c.looked_at-seen.ensures.all) (container_seen _ _)

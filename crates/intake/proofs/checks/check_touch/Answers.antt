@@ -1,14 +1,12 @@
 -- `check_touch` meets its contract: document 01's checks, in their order.
 use mathlib.Core.Path.{◌∙◌}
-use native.Mathlib.Omega.{arith}
-use lib.ListN.{length-take}
 use Rattle.intake.proofs.Checked.{touch_seen}
 use Rattle.intake.proofs.checks.check_touch.Goals as goal
 
 pub any_ink_twice-requires : goal.any_ink_twice-requires
-any_ink_twice-requires c = rw (c.first-seen.ensures, length-take) (omega arith)
+any_ink_twice-requires c = c.looked_at-seen.ensures.few
 
 pub returns : goal.returns
 returns c =
     c.refuse_first.ensures
-    ∙ rw (c.too_many.ensures, c.any_centre.ensures, c.any_point.ensures, c.any_radius.ensures, c.any_ink_twice.ensures, c.too_many_points.ensures, c.first-seen.ensures) (touch_seen _ _ _)
+    ∙ rw (c.too_many.ensures, c.any_centre.ensures, c.any_point.ensures, c.any_radius.ensures, c.any_ink_twice.ensures, c.too_many_points.ensures, c.looked_at-seen.ensures.all) (touch_seen _ _ _)
